@@ -1,0 +1,27 @@
+-- "An answer carries up to fifteen cell numbers and their count." Assumes nothing.
+use mathlib.Core.List.{List, [], _∷_}
+use mathlib.Core.Bool.{Bool, true, false}
+use Prim.Native.Nat.{ℕ, zero, suc, _+_}
+use lib.ListN.{length, set}
+use lib.Dec.{ltb}
+use Rattle.base.specs.Lists.{padded}
+use Rattle.base.specs.Numbers.{Outcome}
+use Rattle.answers.specs.Reading.{Reading, run, trace}
+use Rattle.answers.specs.declared.Cells.{Cells}
+use Rattle.answers.specs.declared.Answer.{Answer}
+
+abbrev pub pickCells : Bool → Cells → Cells → Cells
+pickCells true a b = a
+pickCells false a b = b
+
+-- the list with one cell more, where it has room
+unfoldable pub pushed : Cells → ℕ → Cells
+pushed cs cell = pickCells (ltb (cs .count) 15) (record { at = set (cs .at) (cs .count) cell; count = cs .count + 1 }) cs
+
+-- a list of cells as an answer carries it: unused places are 0
+unfoldable pub listed : List ℕ → Cells
+listed xs = record { at = padded 15 xs; count = length xs }
+
+-- the answer of a program on a table
+unfoldable pub answerTo : List ℕ → Reading → Answer
+answerTo t p = record { number = run t p .number; word = run t p .word; cells = listed (trace t p) }

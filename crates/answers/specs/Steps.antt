@@ -1,0 +1,153 @@
+-- The five questions as reading programs on a table of any contents, `len` words long. Each word is tested as it is read, before any other use.
+-- This is the only transcription of the steps. Assumes nothing.
+use mathlib.Core.Bool.{_&&_}
+use mathlib.Core.Option.{Option}
+use Prim.Native.Nat.{ℕ, suc, _+_, _-_, _*_, _/_, _%_, _^_}
+use lib.Dec.{leb, ltb}
+use Rattle.base.specs.Lists.{first, below}
+use Rattle.base.specs.Numbers.{Outcome, accepted, unknown, tooDeep, notAbove}
+use Rattle.base.specs.Numbers.{broken as brokenTable}
+use Rattle.base.specs.Limits.{mostEntries, groupLimit, shapeCount, entriesOf, jumpRoom, tableWords, microMark, depthCell, kindCell, ladposCell, orderCell, preCell, sizeCell, ladderCell, positionCell, shapeCell, parentCell, jumpCell, ancestorCell}
+use Rattle.shapes.specs.Climbs.{reached, localDepth, mark}
+use Rattle.answers.specs.Reading.{Reading, done, read, ifLe, ifLt, ifEq, ifNone, andThen}
+
+abbrev pub broken : Reading
+broken = done brokenTable
+
+-- the exponent e of the largest power of two not above a 32-bit number x: 2^e ≤ x < 2^(e+1). There is none for 0
+unfoldable pub exponent : ℕ → Option ℕ
+exponent x = first (λ e. leb (2 ^ e) x && ltb x (2 ^ suc e)) (below 32 (λ e. e))
+
+-- a word that is to be the answer is an entry
+unfoldable pub answer : ℕ → ℕ → Reading
+answer n w = ifLe n w broken (done (accepted w))
+
+-- step 1: a table under 4 words, or with cell 0 zero or over 1,048,576, or shorter than W, is broken. Then `next`, with the number of entries
+unfoldable pub counted : ℕ → ℕ → (ℕ → Reading) → Reading
+counted len n next = ifEq n 0 broken (ifLt mostEntries n broken (ifLt len (tableWords n) broken (next n)))
+
+unfoldable pub opened : ℕ → (ℕ → Reading) → Reading
+opened len next = ifLt len 4 broken (read 0 (λ word. counted len (entriesOf word) next))
+
+-- step 4, last read: LADDERS at w's index less the climbs still missing
+unfoldable pub ladder : ℕ → ℕ → ℕ → Reading
+ladder n missing index =
+    ifLt index missing broken
+    (ifLe (2 * n) (index - missing) broken
+    (read (ladderCell n (index - missing)) (answer n)))
+
+-- step 4: LADPOS of w
+unfoldable pub landed : ℕ → ℕ → ℕ → Reading
+landed n missing w = ifLe n w broken (read (ladposCell n w) (ladder n missing))
+
+-- step 4: the ancestor for e, called w, where the jump entry is x above the answer
+unfoldable pub jumped : ℕ → ℕ → ℕ → ℕ → Reading
+jumped n jump x e = read (ancestorCell n jump e) (landed n (x - 2 ^ e))
+
+-- step 4: the jump entry's depth
+unfoldable pub leaped : ℕ → ℕ → ℕ → ℕ → Reading
+leaped n d jump depth =
+    ifLe n depth broken
+    (ifLt depth d broken
+    (ifNone (exponent (depth - d)) broken (jumped n jump (depth - d))))
+
+unfoldable pub fromJump : ℕ → ℕ → ℕ → Reading
+fromJump n d jump = ifLe (jumpRoom n) jump broken (read (jumpCell n jump) (leaped n d jump))
+
+-- step 3: KIND of the group's parent, which is not micro
+unfoldable pub overGroup : ℕ → ℕ → ℕ → Reading
+overGroup n d kind = ifLe microMark kind broken (fromJump n d kind)
+
+-- step 3: the group's parent p
+unfoldable pub leftGroup : ℕ → ℕ → ℕ → ℕ → Reading
+leftGroup n d depth p = ifLe n p broken (ifEq depth d (done (accepted p)) (read (kindCell n p) (overGroup n d)))
+
+-- step 3: the group's position, then ORDER at that position plus the local number reached
+unfoldable pub inOrder : ℕ → ℕ → ℕ → Reading
+inOrder n local position = ifLe n (position + local) broken (read (orderCell n (position + local)) (answer n))
+
+-- step 3: k is v's depth in its group
+unfoldable pub inGroup : ℕ → ℕ → ℕ → ℕ → ℕ → ℕ → Reading
+inGroup n d depth group local shape =
+    let k = localDepth groupLimit shape local in
+    ifLe (depth - d) k
+    (read (positionCell n group) (inOrder n (mark (reached groupLimit shape local (depth - d)))))
+    (read (parentCell n group) (leftGroup n d (depth - k - 1)))
+
+-- step 3: the shape
+unfoldable pub shaped : ℕ → ℕ → ℕ → ℕ → ℕ → ℕ → Reading
+shaped n d depth group local shape =
+    ifLe shapeCount shape broken
+    (ifNone (reached groupLimit shape local 0) broken
+    (λ l. inGroup n d depth group local shape))
+
+unfoldable pub fromGroup : ℕ → ℕ → ℕ → ℕ → ℕ → Reading
+fromGroup n d depth group local = ifLe n group broken (read (shapeCell n group) (shaped n d depth group local))
+
+-- step 3: KIND of v
+unfoldable pub kinded : ℕ → ℕ → ℕ → ℕ → Reading
+kinded n d depth kind =
+    ifLe microMark kind
+    (fromGroup n d depth ((kind - microMark) / 8) ((kind - microMark) % 8))
+    (fromJump n d kind)
+
+-- from step 2's end on: the ancestor at depth d of v, whose depth is not less
+unfoldable pub descended : ℕ → ℕ → ℕ → ℕ → Reading
+descended n v d depth = ifEq depth d (done (accepted v)) (read (kindCell n v) (kinded n d depth))
+
+-- step 2, for a depth d
+unfoldable pub deep : ℕ → ℕ → ℕ → ℕ → Reading
+deep n v d depth = ifLe n depth broken (ifLt depth d (done (tooDeep v)) (descended n v d depth))
+
+unfoldable pub entered : ℕ → ℕ → ℕ → Reading
+entered v d n = ifLe n v (done (unknown v)) (read (depthCell n v) (deep n v d))
+
+-- the level lookup (v, d)
+unfoldable pub level : ℕ → ℕ → ℕ → Reading
+level len v d = opened len (entered v d)
+
+-- step 2, for k climbs
+unfoldable pub high : ℕ → ℕ → ℕ → ℕ → Reading
+high n v k depth = ifLe n depth broken (ifLt depth k (done (tooDeep v)) (descended n v (depth - k) depth))
+
+unfoldable pub climbed : ℕ → ℕ → ℕ → Reading
+climbed v k n = ifLe n v (done (unknown v)) (read (depthCell n v) (high n v k))
+
+-- climbing k up from v: cells and answer of depth minus k
+unfoldable pub climbing : ℕ → ℕ → ℕ → Reading
+climbing len v k = opened len (climbed v k)
+
+-- the rating lookup of v at rating level d: as the level lookup
+unfoldable pub rating : ℕ → ℕ → ℕ → Reading
+rating len v d = level len v d
+
+-- the reads of ancestry: PRE and SIZE of u, PRE of v. Then `above` if PRE u ≤ PRE v < PRE u + SIZE u, else `apart`
+unfoldable pub compared : Reading → Reading → ℕ → ℕ → ℕ → Reading
+compared above apart preU sizeU preV = ifLe preU preV (ifLt preV (preU + sizeU) above apart) apart
+
+unfoldable pub related : ℕ → ℕ → (ℕ → Reading) → Reading → ℕ → Reading
+related u v above apart n =
+    ifLe n u (done (unknown u))
+    (ifLe n v (done (unknown v))
+    (read (preCell n u) (λ preU.
+    read (sizeCell n u) (λ sizeU.
+    read (preCell n v) (compared (above n) apart preU sizeU)))))
+
+-- ancestry: whether u is at or above v
+unfoldable pub ancestry : ℕ → ℕ → ℕ → Reading
+ancestry len u v = opened len (related u v (λ n. done (accepted 1)) (done (accepted 0)))
+
+-- an 8 of the level lookup inside branch is given as 9
+unfoldable pub inside : Outcome → Reading
+inside o = ifEq (o .number) 8 broken (done o)
+
+-- branch: DEPTH of u, then the level lookup of v one deeper
+unfoldable pub deeper : ℕ → ℕ → ℕ → ℕ → Reading
+deeper len v n depth = ifLe n depth broken (andThen (level len v (depth + 1)) inside)
+
+unfoldable pub strictly : ℕ → ℕ → ℕ → ℕ → Reading
+strictly len u v n = ifEq u v (done (notAbove u)) (read (depthCell n u) (deeper len v n))
+
+-- branch: the child of u on the way to v
+unfoldable pub branch : ℕ → ℕ → ℕ → Reading
+branch len u v = opened len (related u v (strictly len u v) (done (notAbove u)))

@@ -1,0 +1,4 @@
+-- What every definition of the tariff rests on.
+pub mod Lists
+pub mod Numbers
+pub mod Limits

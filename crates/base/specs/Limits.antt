@@ -1,0 +1,79 @@
+-- The measures of a prepared table. A change of the group limit changes this module and the cells of the shape table. Assumes nothing.
+use Prim.Native.Nat.{ℕ, _+_, _*_, _/_}
+
+-- the most entries of a parent list
+abbrev pub mostEntries : ℕ
+mostEntries = 1048576
+
+-- the most entries of a group: the size up to which an entry is micro
+abbrev pub groupLimit : ℕ
+groupLimit = 5
+
+-- the shapes of up to `groupLimit` entries
+abbrev pub shapeCount : ℕ
+shapeCount = 23
+
+-- cell 0 for n entries, and the number of entries that a cell 0 stands for
+abbrev pub headerOf : ℕ → ℕ
+headerOf n = n
+
+abbrev pub entriesOf : ℕ → ℕ
+entriesOf word = word
+
+-- the records that JUMPS has room for, and the words of one
+abbrev pub jumpRoom : ℕ → ℕ
+jumpRoom n = n / (groupLimit + 1)
+
+abbrev pub recordWords : ℕ
+recordWords = 21
+
+-- W: the words of a prepared table of n entries
+abbrev pub tableWords : ℕ → ℕ
+tableWords n = 4 + 11 * n + recordWords * jumpRoom n
+
+-- the words of working space that preparing n entries takes
+abbrev pub spaceWords : ℕ → ℕ
+spaceWords n = 6 * n
+
+-- KIND of a micro entry is at least this
+abbrev pub microMark : ℕ
+microMark = 2147483648
+
+-- the cells of the sections of n entries: of entry v, at position or index i, of group g, of jump record r
+abbrev pub depthCell : ℕ → ℕ → ℕ
+depthCell n v = 4 + v
+
+abbrev pub kindCell : ℕ → ℕ → ℕ
+kindCell n v = 4 + n + v
+
+abbrev pub ladposCell : ℕ → ℕ → ℕ
+ladposCell n v = 4 + 2 * n + v
+
+abbrev pub orderCell : ℕ → ℕ → ℕ
+orderCell n i = 4 + 3 * n + i
+
+abbrev pub preCell : ℕ → ℕ → ℕ
+preCell n v = 4 + 4 * n + v
+
+abbrev pub sizeCell : ℕ → ℕ → ℕ
+sizeCell n v = 4 + 5 * n + v
+
+abbrev pub ladderCell : ℕ → ℕ → ℕ
+ladderCell n i = 4 + 6 * n + i
+
+-- a group's position, shape and parent
+abbrev pub positionCell : ℕ → ℕ → ℕ
+positionCell n g = 4 + 8 * n + 3 * g
+
+abbrev pub shapeCell : ℕ → ℕ → ℕ
+shapeCell n g = 4 + 8 * n + 3 * g + 1
+
+abbrev pub parentCell : ℕ → ℕ → ℕ
+parentCell n g = 4 + 8 * n + 3 * g + 2
+
+-- a jump entry's depth, and the ancestor 2^e above it
+abbrev pub jumpCell : ℕ → ℕ → ℕ
+jumpCell n r = 4 + 11 * n + recordWords * r
+
+abbrev pub ancestorCell : ℕ → ℕ → ℕ → ℕ
+ancestorCell n r e = 4 + 11 * n + recordWords * r + 1 + e

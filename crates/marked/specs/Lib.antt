@@ -1,0 +1,2 @@
+-- The marked entries M1 to M12.
+pub mod Marked

@@ -1,0 +1,1 @@
+// The prepared table: definitions and theorems, no functions.

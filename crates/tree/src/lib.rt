@@ -1,0 +1,1 @@
+// The parent list and its tree: definitions and theorems, no functions.
