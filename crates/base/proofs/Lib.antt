@@ -1,0 +1,3 @@
+-- Laws of the functions on lists.
+pub mod Lists
+pub mod Counts

@@ -1,0 +1,67 @@
+-- Laws of `specs/Lists.antt`, and of what stands at a place of a list. Assumes nothing.
+use mathlib.Core.Path.{_≡_, refl, sym, ap, _∙_}
+use mathlib.Core.List.{List, [], _∷_}
+use mathlib.Core.Bool.{Bool, true, false, cond}
+use mathlib.Core.Option.{Option, none, some}
+use Prim.Native.Nat.{ℕ, zero, suc, _+_, _≤_, _<_}
+use native.Mathlib.Nat.{not-suc-le-zero, le-of-suc-le-suc}
+use native.Mathlib.Omega.{arith}
+use native.Mathlib.Decide.{ℕ-discrete}
+use lib.ListN.{length, getD, getElem?}
+use borrow.Author.Tests.{eq-eqb, ne-eqb}
+use Rattle.base.specs.Lists.{each, first, places}
+
+-- no truth value is both
+pub clash : {A : Type 0} → _≡_ {A = Bool} false true → A
+clash e = absurd (let z : _≡_ {A = ℕ} 0 1 = cc in omega arith)
+
+-- what stands at a place of a list, or past its end
+pub at-in : (l : List ℕ) (i : ℕ) → i < length l → getElem? l i ≡ some (getD l i 0)
+at-in [] i h = absurd (not-suc-le-zero h)
+at-in (x ∷ l) zero h = refl
+at-in (x ∷ l) (suc i) h = at-in l i (le-of-suc-le-suc h)
+
+pub at-past {ℓ} : {A : Type ℓ} (l : List A) (i : ℕ) → length l ≤ i → getElem? l i ≡ none
+at-past [] i h = refl
+at-past (x ∷ l) zero h = absurd (not-suc-le-zero h)
+at-past (x ∷ l) (suc i) h = at-past l i (le-of-suc-le-suc h)
+
+pub at-some : (l : List ℕ) (i x : ℕ) → getElem? l i ≡ some x → (i < length l) × (getD l i 0 ≡ x)
+at-some [] i x e = absurd (let z : _≡_ {A = ℕ} 0 1 = cc in omega arith)
+at-some (y ∷ l) zero x e = (omega arith, cc)
+at-some (y ∷ l) (suc i) x e = let r = at-some l i x e in (omega (arith, r .0), r .1)
+
+-- the first number of a row that passes a test: where there is none, all fail
+module _ (test : ℕ → Bool) where
+  pub first-none : (n i : ℕ) → first test (each n i (λ v. v)) ≡ none → (v : ℕ) → i ≤ v → v < i + n → test v ≡ false
+  unfolding first each
+  first-none zero i e v a b = absurd (omega arith)
+  first-none (suc n) i e v a b = go (test i) refl e (ℕ-discrete v i) (λ q c. first-none n (suc i) q v c (omega arith))
+    where
+      go : (t : Bool) → test i ≡ t → cond t (some i) (first test (each n (suc i) (λ u. u))) ≡ none → Dec (v ≡ i)
+          → (first test (each n (suc i) (λ u. u)) ≡ none → suc i ≤ v → test v ≡ false) → test v ≡ false
+      go true t e d ih = absurd (let z : _≡_ {A = ℕ} 0 1 = cc in omega arith)
+      go false t e (yes d) ih = rw d t
+      go false t e (no d) ih = ih e (omega arith)
+
+  pub none-first : (n i : ℕ) → ((v : ℕ) → i ≤ v → v < i + n → test v ≡ false) → first test (each n i (λ v. v)) ≡ none
+  unfolding first each
+  none-first zero i h = refl
+  none-first (suc n) i h = rw (h i (omega arith) (omega arith)) (none-first n (suc i) (λ v a b. h v (omega arith) (omega arith)))
+
+-- the places of a number that stands nowhere in a list, or at one place alone
+pub places-none : (l : List ℕ) (i x : ℕ) → ((j : ℕ) → j < length l → getD l j 0 ≡ x → ⊥) → places l i x ≡ []
+unfolding places
+places-none [] i x h = refl
+places-none (y ∷ l) i x h = rw (ne-eqb y x (h 0 (omega arith))) (places-none l (suc i) x (λ j b. h (suc j) (omega arith)))
+
+pub places-one : (l : List ℕ) (i x j : ℕ) → j < length l → getD l j 0 ≡ x → ((m : ℕ) → m < length l → (m ≡ j → ⊥) → getD l m 0 ≡ x → ⊥) → places l i x ≡ (i + j) ∷ []
+unfolding places
+places-one [] i x j b e h = absurd (not-suc-le-zero b)
+places-one (y ∷ l) i x zero b e h =
+    let z : i + 0 ≡ i = omega arith in
+    rw (eq-eqb y x e, z, places-none l (suc i) x (λ m c. h (suc m) (omega arith) (λ q. omega arith)))
+places-one (y ∷ l) i x (suc j) b e h =
+    let z : i + suc j ≡ suc i + j = omega arith in
+    rw (ne-eqb y x (h 0 (omega arith) (λ q. omega arith)), z)
+    (places-one l (suc i) x j (le-of-suc-le-suc b) e (λ m c n. h (suc m) (omega arith) (λ q. n (omega arith))))

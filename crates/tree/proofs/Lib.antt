@@ -1,0 +1,6 @@
+-- Laws and theorems of the parent list.
+pub mod Climbing
+pub mod Preorders
+pub mod OneTree
+pub mod Depths
+pub mod Theorems
