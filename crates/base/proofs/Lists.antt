@@ -49,6 +49,26 @@ module _ (test : ℕ → Bool) where
   none-first zero i h = refl
   none-first (suc n) i h = rw (h i (omega arith) (omega arith)) (none-first n (suc i) (λ v a b. h v (omega arith) (omega arith)))
 
+  -- the first that passes is a number of the row, and those before it fail
+  pub first-some : (n i e : ℕ) → first test (each n i (λ v. v)) ≡ some e → (i ≤ e) × (e < i + n) × (test e ≡ true)
+  unfolding first each
+  first-some zero i e q = absurd (let z : _≡_ {A = ℕ} 0 1 = cc in omega arith)
+  first-some (suc n) i e q = go (test i) refl q (first-some n (suc i) e)
+    where
+      go : (t : Bool) → test i ≡ t → cond t (some i) (first test (each n (suc i) (λ u. u))) ≡ some e
+          → (first test (each n (suc i) (λ u. u)) ≡ some e → (suc i ≤ e) × (e < suc i + n) × (test e ≡ true)) → (i ≤ e) × (e < i + suc n) × (test e ≡ true)
+      go true t q ih = let z : i ≡ e = cc in (omega arith, omega arith, rw (← z) t)
+      go false t q ih = let r = ih q in (omega (arith, r .0), omega (arith, r .1), r .2)
+
+  pub first-is : (n i e : ℕ) → i ≤ e → e < i + n → test e ≡ true → ((v : ℕ) → i ≤ v → v < e → test v ≡ false) → first test (each n i (λ v. v)) ≡ some e
+  unfolding first each
+  first-is zero i e a b t h = absurd (omega arith)
+  first-is (suc n) i e a b t h = go (ℕ-discrete i e) (λ c. first-is n (suc i) e c (omega arith) t (λ v x y. h v (omega arith) y))
+    where
+      go : Dec (i ≡ e) → (suc i ≤ e → first test (each n (suc i) (λ u. u)) ≡ some e) → cond (test i) (some i) (first test (each n (suc i) (λ u. u))) ≡ some e
+      go (yes q) ih = rw (q, t)
+      go (no q) ih = rw (h i (omega arith) (omega arith)) (ih (omega arith))
+
 -- the places of a number that stands nowhere in a list, or at one place alone
 pub places-none : (l : List ℕ) (i x : ℕ) → ((j : ℕ) → j < length l → getD l j 0 ≡ x → ⊥) → places l i x ≡ []
 unfolding places

@@ -1,0 +1,4 @@
+-- Laws of reading programs, and the bounds of the five questions.
+pub mod Locality
+pub mod Bounds
+pub mod Exponent

@@ -1,0 +1,2 @@
+-- Theorems of preparing.
+pub mod Accepting
