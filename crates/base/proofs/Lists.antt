@@ -1,15 +1,15 @@
 -- Laws of `specs/Lists.antt`, and of what stands at a place of a list. Assumes nothing.
-use mathlib.Core.Path.{_≡_, refl, sym, ap, _∙_}
-use mathlib.Core.List.{List, [], _∷_}
+use mathlib.Core.Path.{_≡_, refl, sym, ap, subst, _∙_}
+use mathlib.Core.List.{List, [], _∷_, _++_, map}
 use mathlib.Core.Bool.{Bool, true, false, cond}
-use mathlib.Core.Option.{Option, none, some}
+use mathlib.Core.Option.{Option, none, some, Option·none-ne-some}
 use Prim.Native.Nat.{ℕ, zero, suc, _+_, _≤_, _<_}
-use native.Mathlib.Nat.{not-suc-le-zero, le-of-suc-le-suc}
+use native.Mathlib.Nat.{add-zero, zero-add, not-suc-le-zero, le-of-suc-le-suc}
 use native.Mathlib.Omega.{arith}
 use native.Mathlib.Decide.{ℕ-discrete}
 use lib.ListN.{length, getD, getElem?}
 use borrow.Author.Tests.{eq-eqb, ne-eqb}
-use Rattle.base.specs.Lists.{each, first, places}
+use Rattle.base.specs.Lists.{each, below, first, places}
 
 -- no truth value is both
 pub clash : {A : Type 0} → _≡_ {A = Bool} false true → A
@@ -85,3 +85,41 @@ places-one (y ∷ l) i x (suc j) b e h =
     let z : i + suc j ≡ suc i + j = omega arith in
     rw (ne-eqb y x (h 0 (omega arith) (λ q. omega arith)), z)
     (places-one l (suc i) x j (le-of-suc-le-suc b) e (λ m c n. h (suc m) (omega arith) (λ q. n (omega arith))))
+
+-- what stands at place k of `each`
+pub each-at {ℓ} : {A : Type ℓ} (n i : ℕ) (f : ℕ → A) (d : A) (k : ℕ) → k < n → getD (each n i f) k d ≡ f (i + k)
+unfolding each
+each-at zero i f d k h = absurd (not-suc-le-zero h)
+each-at (suc n) i f d zero h = ap f (sym (add-zero i))
+each-at (suc n) i f d (suc k) h = each-at n (suc i) f d k (le-of-suc-le-suc h) ∙ ap f (omega arith)
+
+-- what stands at place k of `below`
+pub below-at {ℓ} : {A : Type ℓ} (n : ℕ) (f : ℕ → A) (d : A) (k : ℕ) → k < n → getD (below n f) k d ≡ f k
+below-at n f d k h = each-at n 0 f d k h ∙ ap f (zero-add k)
+
+-- P holds of every one of a list
+abbrev pub All {ℓ} : {A : Type ℓ} → (A → Type 0) → List A → Type 0
+All P [] = Unit
+All P (x ∷ l) = P x × All P l
+
+module _ {ℓ} {A : Type ℓ} (P : A → Type 0) where
+  -- it holds of the one at any place
+  pub all-at : (l : List A) → All P l → (i : ℕ) (x : A) → getElem? l i ≡ some x → P x
+  all-at [] h i x e = absurd (Option·none-ne-some x e)
+  all-at (y ∷ l) h zero x e = subst P (cc) (h .0)
+  all-at (y ∷ l) h (suc i) x e = all-at l (h .1) i x e
+
+  -- it holds of every one of two lists joined
+  pub all-append : (l m : List A) → All P l → All P m → All P (l ++ m)
+  all-append [] m h k = k
+  all-append (x ∷ l) m h k = (h .0, all-append l m (h .1) k)
+
+  -- it holds of every one, where what Q says gives it
+  pub all-from : (Q : A → Type 0) → ((x : A) → Q x → P x) → (l : List A) → All Q l → All P l
+  all-from Q g [] h = tt
+  all-from Q g (x ∷ l) h = (g x (h .0), all-from Q g l (h .1))
+
+  -- it holds of every f x, where what Q says of x gives it
+  pub all-map {κ} : {B : Type κ} (Q : B → Type 0) (f : B → A) → ((x : B) → Q x → P (f x)) → (l : List B) → All Q l → All P (map f l)
+  all-map Q f g [] h = tt
+  all-map Q f g (x ∷ l) h = (g x (h .0), all-map Q f g l (h .1))

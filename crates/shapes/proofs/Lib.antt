@@ -1,0 +1,3 @@
+-- Laws of the shape table.
+pub mod Sizes
+pub mod Rule

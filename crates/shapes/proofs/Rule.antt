@@ -1,0 +1,37 @@
+-- The rule of the shape table, once for any group limit up to 255. Assumes nothing.
+use mathlib.Core.Path.{_≡_, refl, ap}
+use mathlib.Core.List.{List, []}
+use mathlib.Core.Option.{Option, none, some, bind}
+use Prim.Native.Nat.{ℕ, _≤_, _<_}
+use native.Mathlib.Omega.{arith}
+use lib.ListN.{length, getD}
+use Rattle.base.specs.Limits.{groupLimit, shapeCount}
+use Rattle.base.specs.Lists.{below}
+use Rattle.base.proofs.Lists.{below-at, at-past}
+use Rattle.tree.specs.Parents.{up}
+use Rattle.shapes.specs.Walks.{Walk, shapes}
+use Rattle.shapes.specs.Climbs.{parentList, reached, mark, rowsOf, Says, Rule}
+use Rattle.shapes.proofs.Sizes.{reached-below}
+
+-- a cell holds the local number that its climb reaches, and 255 where there is none
+pub cell-is : (L s l k : ℕ) → l < L → k < L → getD (getD (rowsOf L s) l []) k 0 ≡ mark (reached L s l k)
+unfolding rowsOf
+cell-is L s l k hl hk = rw (below-at {A = List ℕ} L _ [] l hl, below-at {A = ℕ} L _ 0 k hk)
+
+-- a number below 255 is told from none
+says : (o : Option ℕ) → ((j : ℕ) → o ≡ some j → j < 255) → Says o (mark o)
+says none h = refl
+says (some j) h = (refl, h j refl)
+
+-- the rule holds of the rows of every shape, at any limit up to 255
+pub rule : (L : ℕ) → L ≤ 255 → (s : ℕ) → Rule L s (rowsOf L s)
+rule L b s l k hl hk = rw (cell-is L s l k hl hk) (says (reached L s l k) (λ j e. omega (arith, reached-below L s l k j e)))
+
+-- a number that is no shape has only 255
+pub no-shape : (L s : ℕ) → length (shapes L) ≤ s → rowsOf L s ≡ below L (λ l. below L (λ k. 255))
+unfolding rowsOf reached bind
+no-shape L s h = ap (λ (o : Option Walk). below L (λ l. below L (λ k. mark (bind o (λ w. up (parentList w) k l))))) (at-past (shapes L) s h)
+
+-- the paper's limit has 23 shapes
+pub shape-count : length (shapes groupLimit) ≡ shapeCount
+shape-count = refl
