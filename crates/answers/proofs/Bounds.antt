@@ -5,7 +5,7 @@ use Prim.Native.Nat.{ℕ, zero, suc, _+_}
 use lib.Dec.{leb, ltb, eqb}
 use Rattle.base.specs.Numbers.{Outcome}
 use Rattle.answers.specs.Reading.{Reading, done, read, ifLe, ifLt, ifEq, ifNone, andThen, Within}
-use Rattle.answers.specs.Steps.{answer, counted, opened, ladder, landed, jumped, leaped, fromJump, overGroup, leftGroup, inOrder, inGroup, shaped, fromGroup, kinded, descended, deep, entered, level, high, climbed, climbing, rating, compared, related, ancestry, inside, deeper, strictly, branch}
+use Rattle.answers.specs.Steps.{answer, counted, opened, ladder, landed, jumped, leaped, fromJump, overGroup, leftGroup, inOrder, inGroup, shaped, fromGroup, kinded, descended, deep, entered, level, climbing, rating, compared, related, ancestry, inside, deeper, strictly, branch}
 
 -- the bound of a program from those of its parts
 pub within-done : (b : ℕ) (o : Outcome) → Within b (done o)
@@ -53,13 +53,17 @@ pub ruleset bounds = (within-done, within-read, within-le, within-lt, within-eq,
 
 -- ten cells for the level lookup, a climb and a rating, four for ancestry, fifteen for branch
 module _ (len : ℕ) where
+  looked : (climbs : Bool) (v x : ℕ) → Within 10 (opened len (entered climbs v x))
+  unfolding opened counted entered deep descended kinded fromGroup shaped inGroup inOrder leftGroup overGroup fromJump leaped jumped landed ladder answer Within
+  looked climbs v x = search bounds depth 40
+
   pub level-within : (v d : ℕ) → Within 10 (level len v d)
-  unfolding level opened counted entered deep descended kinded fromGroup shaped inGroup inOrder leftGroup overGroup fromJump leaped jumped landed ladder answer Within
-  level-within v d = search bounds depth 40
+  unfolding level
+  level-within v d = looked false v d
 
   pub climbing-within : (v k : ℕ) → Within 10 (climbing len v k)
-  unfolding climbing climbed high opened counted descended kinded fromGroup shaped inGroup inOrder leftGroup overGroup fromJump leaped jumped landed ladder answer Within
-  climbing-within v k = search bounds depth 40
+  unfolding climbing
+  climbing-within v k = looked true v k
 
   pub rating-within : (v d : ℕ) → Within 10 (rating len v d)
   unfolding rating

@@ -1,12 +1,13 @@
 -- "An answer carries up to fifteen cell numbers and their count." Assumes nothing.
 use mathlib.Core.List.{List, [], _∷_}
 use mathlib.Core.Bool.{Bool, true, false}
-use Prim.Native.Nat.{ℕ, zero, suc, _+_}
-use lib.ListN.{length, set}
+use mathlib.Core.Path.{_≡_}
+use Prim.Native.Nat.{ℕ, _+_, _<_}
+use lib.ListN.{length, getD, set}
 use lib.Dec.{ltb}
 use Rattle.base.specs.Lists.{padded}
 use Rattle.base.specs.Numbers.{Outcome}
-use Rattle.answers.specs.Reading.{Reading, run, trace}
+use Rattle.answers.specs.Reading.{Reading, done, read, wordAt, run, trace}
 use Rattle.answers.specs.declared.Cells.{Cells}
 use Rattle.answers.specs.declared.Answer.{Answer}
 
@@ -25,3 +26,12 @@ listed xs = record { at = padded 15 xs; count = length xs }
 -- the answer of a program on a table
 unfoldable pub answerTo : List ℕ → Reading → Answer
 answerTo t p = record { number = run t p .number; word = run t p .word; cells = listed (trace t p) }
+
+-- the answer of what is left of a program, after the cells read so far
+unfoldable pub answerFrom : List ℕ → Cells → Reading → Answer
+answerFrom t cs (done o) = record { number = o .number; word = o .word; cells = cs }
+answerFrom t cs (read cell k) = answerFrom t (pushed cs cell) (k (wordAt t cell))
+
+-- two tables have the same words in the cells that an answer lists
+abbrev pub SameAt : Answer → List ℕ → List ℕ → Type 0
+SameAt r t u = (i : ℕ) → i < r .cells .count → wordAt t (getD (r .cells .at) i 0) ≡ wordAt u (getD (r .cells .at) i 0)

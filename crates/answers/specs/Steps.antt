@@ -1,6 +1,6 @@
 -- The five questions as reading programs on a table of any contents, `len` words long. Each word is tested as it is read, before any other use.
 -- This is the only transcription of the steps. Assumes nothing.
-use mathlib.Core.Bool.{_&&_}
+use mathlib.Core.Bool.{Bool, true, false, _&&_}
 use mathlib.Core.Option.{Option}
 use Prim.Native.Nat.{ℕ, suc, _+_, _-_, _*_, _/_, _%_, _^_}
 use lib.Dec.{leb, ltb}
@@ -91,31 +91,29 @@ kinded n d depth kind =
     (fromGroup n d depth ((kind - microMark) / 8) ((kind - microMark) % 8))
     (fromJump n d kind)
 
--- from step 2's end on: the ancestor at depth d of v, whose depth is not less
+-- step 2, after its tests: the ancestor at depth d of v, whose depth is not less
 unfoldable pub descended : ℕ → ℕ → ℕ → ℕ → Reading
 descended n v d depth = ifEq depth d (done (accepted v)) (read (kindCell n v) (kinded n d depth))
 
--- step 2, for a depth d
-unfoldable pub deep : ℕ → ℕ → ℕ → ℕ → Reading
-deep n v d depth = ifLe n depth broken (ifLt depth d (done (tooDeep v)) (descended n v d depth))
+-- the depth that is wanted of an entry's `depth`, where x is asked: depth x, or that x climbs up
+abbrev pub wanted : Bool → ℕ → ℕ → ℕ
+wanted false x depth = x
+wanted true x depth = depth - x
 
-unfoldable pub entered : ℕ → ℕ → ℕ → Reading
-entered v d n = ifLe n v (done (unknown v)) (read (depthCell n v) (deep n v d))
+-- step 2: `climbs` tells whether x counts climbs. Either way an x over the depth is too deep
+unfoldable pub deep : ℕ → Bool → ℕ → ℕ → ℕ → Reading
+deep n climbs v x depth = ifLe n depth broken (ifLt depth x (done (tooDeep v)) (descended n v (wanted climbs x depth) depth))
+
+unfoldable pub entered : Bool → ℕ → ℕ → ℕ → Reading
+entered climbs v x n = ifLe n v (done (unknown v)) (read (depthCell n v) (deep n climbs v x))
 
 -- the level lookup (v, d)
 unfoldable pub level : ℕ → ℕ → ℕ → Reading
-level len v d = opened len (entered v d)
-
--- step 2, for k climbs
-unfoldable pub high : ℕ → ℕ → ℕ → ℕ → Reading
-high n v k depth = ifLe n depth broken (ifLt depth k (done (tooDeep v)) (descended n v (depth - k) depth))
-
-unfoldable pub climbed : ℕ → ℕ → ℕ → Reading
-climbed v k n = ifLe n v (done (unknown v)) (read (depthCell n v) (high n v k))
+level len v d = opened len (entered false v d)
 
 -- climbing k up from v: cells and answer of depth minus k
 unfoldable pub climbing : ℕ → ℕ → ℕ → Reading
-climbing len v k = opened len (climbed v k)
+climbing len v k = opened len (entered true v k)
 
 -- the rating lookup of v at rating level d: as the level lookup
 unfoldable pub rating : ℕ → ℕ → ℕ → Reading

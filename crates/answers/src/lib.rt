@@ -27,19 +27,15 @@ impl Cells {
     }
 
     // The list with one cell more. A full list stays as it is.
-    pub fn push(self, cell: u32) -> Cells
+    pub fn push(mut self, cell: u32) -> Cells
         ensures { λ r. ⌜ r ≡ pushed self cell ⌝ }
     {
         let count = self.count;
-        if count < 15 {
-            let mut at = self.at;
-            at[count as usize] = cell;
-            Cells {
-                at,
-                count: count + 1,
-            }
-        } else {
-            self
+        if 15 <= count {
+            return self;
         }
+        self.at[count as usize] = cell;
+        self.count = count + 1;
+        self
     }
 }

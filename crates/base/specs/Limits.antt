@@ -1,5 +1,7 @@
 -- The measures of a prepared table. A change of the group limit changes this module and the cells of the shape table. Assumes nothing.
-use Prim.Native.Nat.{ℕ, _+_, _*_, _/_}
+use mathlib.Core.List.{List}
+use Prim.Native.Nat.{ℕ, _+_, _*_, _/_, _≤_}
+use lib.ListN.{length}
 
 -- the most entries of a parent list
 abbrev pub mostEntries : ℕ
@@ -30,6 +32,11 @@ recordWords = 21
 -- W: the words of a prepared table of n entries
 abbrev pub tableWords : ℕ → ℕ
 tableWords n = 4 + 11 * n + recordWords * jumpRoom n
+
+-- a table has room for the sections of n entries
+pub record Sized (t : List ℕ) (n : ℕ) : Type 0 where
+  pub few : n ≤ mostEntries
+  pub room : tableWords n ≤ length t
 
 -- the words of working space that preparing n entries takes
 abbrev pub spaceWords : ℕ → ℕ

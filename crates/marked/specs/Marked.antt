@@ -1,17 +1,18 @@
 -- The marked entries M1 to M12 and the printed values of W: one table of cases, and one statement that the definitions give them.
 -- Assumes nothing.
 use mathlib.Core.Path.{_≡_, refl}
-use mathlib.Core.List.{List, [], _∷_, flatten, flatMap, map}
+use mathlib.Core.List.{List, [], _∷_, _++_, flatten, flatMap, map}
 use mathlib.Core.Option.{Option, none, some, Option·elim, bind, orElse}
 use Prim.Native.Nat.{ℕ}
 use lib.ListN.{length}
 use Rattle.base.specs.Lists.{each, keep, first, index, every, some?, places, padded}
 use Rattle.base.specs.Numbers.{Outcome, accepted, count, stray, tops, loop, unknown, tooDeep}
-use Rattle.base.specs.Limits.{tableWords, spaceWords}
-use Rattle.tree.specs.Parents.{topMark, entry, parent, up, climbWithin, depth}
+use Rattle.base.specs.Limits.{groupLimit, tableWords, spaceWords}
+use Rattle.tree.specs.Parents.{topMark, entry, parent, climbWithin, depth}
+use Rattle.tree.specs.Parents.{up as climbUp}
 use Rattle.tree.specs.Forest.{plant, grow, preorder, forestSize, forestHeight, tallest, spine, pathTop}
 use Rattle.tree.specs.Faults.{isStray, meetsTop, listFault}
-use Rattle.shapes.specs.Walks.{walkRound, shapeNumber}
+use Rattle.shapes.specs.Walks.{Walk, down, up, walkRound, shapeNumber}
 use Rattle.shapes.specs.Climbs.{parentList, reached, localDepth}
 use Rattle.table.specs.Ladders.{nearest, ladders, ownPath, ladPos}
 use Rattle.table.specs.Groups.{micro, groupRoot, groups, groupWords, jumpNode, jumpRecord, microKind, macroKind, kind}
@@ -27,6 +28,7 @@ data Asked : Type 0 where
   lookup : List ℕ → ℕ → ℕ → Asked
   prepare : List ℕ → Asked
   table : List ℕ → Asked
+  shape : Walk → Asked
   words : ℕ → Asked
   entries : ℕ → Asked
 
@@ -38,11 +40,12 @@ data Said : Type 0 where
   turned : Option Outcome → Said
 
 -- the definitions' word on what is asked: a level lookup on a list's table, preparing with table and space just long enough, a list's table,
--- W, and the check of the number of entries
+-- a shape's number, W, and the check of the number of entries
 say : Asked → Said
 say (lookup ps v d) = let t = tableOf ps in answered (answerTo t (level (length t) v d))
 say (prepare ps) = prepared (preparing ps (tableWords (length ps)) (spaceWords (length ps)))
 say (table ps) = holds (tableOf ps)
+say (shape w) = number (shapeNumber groupLimit w)
 say (words n) = number (tableWords n)
 say (entries n) = turned (countFault n)
 
@@ -50,10 +53,25 @@ record Case : Type 0 where
   asked : Asked
   said : Said
 
--- a lookup on the table of the chain of eight, with its outcome and its cells
+-- the chain of eight
 chain : List ℕ
 chain = topMark ∷ 0 ∷ 1 ∷ 2 ∷ 3 ∷ 4 ∷ 5 ∷ 6 ∷ []
 
+-- its table, section by section
+chainTable : List ℕ
+chainTable =
+    (8 ∷ 1 ∷ 1 ∷ 1 ∷ [])
+    ++ ((0 ∷ 1 ∷ 2 ∷ 3 ∷ 4 ∷ 5 ∷ 6 ∷ 7 ∷ [])  -- DEPTH
+    ++ ((0 ∷ 0 ∷ 0 ∷ 2147483648 ∷ 2147483649 ∷ 2147483650 ∷ 2147483651 ∷ 2147483652 ∷ [])  -- KIND
+    ++ ((0 ∷ 1 ∷ 2 ∷ 3 ∷ 4 ∷ 5 ∷ 6 ∷ 7 ∷ [])  -- LADPOS
+    ++ ((0 ∷ 1 ∷ 2 ∷ 3 ∷ 4 ∷ 5 ∷ 6 ∷ 7 ∷ [])  -- ORDER
+    ++ ((0 ∷ 1 ∷ 2 ∷ 3 ∷ 4 ∷ 5 ∷ 6 ∷ 7 ∷ [])  -- PRE
+    ++ ((8 ∷ 7 ∷ 6 ∷ 5 ∷ 4 ∷ 3 ∷ 2 ∷ 1 ∷ [])  -- SIZE
+    ++ (padded 16 (0 ∷ 1 ∷ 2 ∷ 3 ∷ 4 ∷ 5 ∷ 6 ∷ 7 ∷ [])  -- LADDERS
+    ++ (padded 24 (3 ∷ 9 ∷ 2 ∷ [])  -- GROUPS
+    ++ padded 21 (2 ∷ 1 ∷ 0 ∷ [])))))))))  -- JUMPS
+
+-- a lookup on it, with its outcome and its cells
 look : ℕ → ℕ → Outcome → List ℕ → Case
 look v d o cells = record { asked = lookup chain v d; said = answered (record { number = o .number; word = o .word; cells = listed cells }) }
 
@@ -77,8 +95,13 @@ marked =
       asked = table (topMark ∷ []);
       said = holds (1 ∷ 0 ∷ 1 ∷ 1 ∷ 0 ∷ 2147483648 ∷ 0 ∷ 0 ∷ 0 ∷ 1 ∷ 0 ∷ 0 ∷ 0 ∷ 0 ∷ 4294967295 ∷ []);
     }  -- M12
+    ∷ record { asked = table chain; said = holds chainTable }
     ∷ turn (topMark ∷ []) (accepted 15)
     ∷ turn chain (accepted 113)
+    ∷ record { asked = shape []; said = number 0 }  -- a lone entry
+    ∷ record { asked = shape (down ∷ up ∷ down ∷ up ∷ []); said = number 3 }  -- two leaves under a root
+    ∷ record { asked = shape (down ∷ down ∷ down ∷ down ∷ up ∷ up ∷ up ∷ up ∷ []); said = number 9 }  -- a chain of five
+    ∷ record { asked = shape (down ∷ up ∷ down ∷ up ∷ down ∷ up ∷ down ∷ up ∷ []); said = number 22 }  -- a root with four leaves
     ∷ record { asked = words 5; said = number 59 }
     ∷ record { asked = words 6; said = number 91 }
     ∷ record { asked = words 1048576; said = number 15204342 }
@@ -87,5 +110,5 @@ marked =
     ∷ []
 
 marked-entries : map (λ c. say (c .asked)) marked ≡ map (λ c. c .said) marked
-unfolding say marked chain look turn flatten flatMap Option·elim bind orElse each keep first index every some? places padded entry parent up climbWithin depth plant grow preorder forestSize forestHeight tallest spine pathTop isStray meetsTop listFault walkRound shapeNumber parentList reached localDepth nearest ladders ownPath ladPos micro groupRoot groups groupWords jumpNode jumpRecord microKind macroKind kind header entrySections laidSections tableOf countFault tableFault spaceFault callFault refusal preparing run trace ifLe ifLt ifEq ifNone listed answerTo exponent answer counted opened ladder landed jumped leaped fromJump overGroup leftGroup inOrder inGroup shaped fromGroup kinded descended deep entered level
+unfolding say marked chain chainTable look turn flatten flatMap Option·elim bind orElse each keep first index every some? places padded entry parent climbUp climbWithin depth plant grow preorder forestSize forestHeight tallest spine pathTop isStray meetsTop listFault walkRound shapeNumber parentList reached localDepth nearest ladders ownPath ladPos micro groupRoot groups groupWords jumpNode jumpRecord microKind macroKind kind header entrySections laidSections tableOf countFault tableFault spaceFault callFault refusal preparing run trace ifLe ifLt ifEq ifNone listed answerTo exponent answer counted opened ladder landed jumped leaped fromJump overGroup leftGroup inOrder inGroup shaped fromGroup kinded descended deep entered level
 marked-entries = refl

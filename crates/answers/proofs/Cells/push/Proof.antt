@@ -10,9 +10,9 @@ unfolding pushed
 push-spec =
     tie.close
     (tie.spec
+    (λ c. simp (le-ltb _ _ (c .if1 .taken)))
     (λ c. search needs)
     (λ c. search needs)
     (λ c. search needs)
     (λ c. search needs)
-    (λ c. simp (lt-ltb _ _ (c .before .if1 .taken)))
-    (λ c. simp (le-ltb _ _ (c .if1 .left))))
+    (λ c. simp (lt-ltb _ _ (c .if1 .left))))
