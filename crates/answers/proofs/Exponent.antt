@@ -54,3 +54,16 @@ exponent-none x small = (
     zero-of q (no z) =
         let (j, e, lo, hi) = leading-top 32 x (omega arith) small in
         absurd (Option·none-ne-some j (sym q ∙ exponent-iff x j small .1 (lo, hi)))
+
+-- the power is not above the number, and the exponent of a number below 2^k is below k
+pub exponent-low : (k x e : ℕ) → k ≤ 32 → x < 2 ^ k → exponent x ≡ some e → (e < k) × (2 ^ e ≤ x)
+exponent-low k x e b h q =
+    let r = exponent-iff x e (omega (arith, pow-mono {i = k} {j = 32} b)) .0 q in
+    (go (decLt e k) (r .0), r .0)
+  where
+    go : Dec (e < k) → 2 ^ e ≤ x → e < k
+    go (yes c) low = c
+    go (no c) low = absurd (omega (arith, pow-mono {i = k} {j = e} (omega arith)))
+
+pub exponent-zero : (x : ℕ) → x ≡ 0 → exponent x ≡ none
+exponent-zero x z = exponent-none x (omega arith) .1 z

@@ -1,3 +1,4 @@
 -- Laws of the shape table.
 pub mod Sizes
 pub mod Rule
+pub mod Heights

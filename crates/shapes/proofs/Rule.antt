@@ -10,12 +10,12 @@ use Rattle.base.specs.Lists.{below}
 use Rattle.base.proofs.Lists.{below-at, at-past}
 use Rattle.tree.specs.Parents.{up}
 use Rattle.shapes.specs.Walks.{Walk, shapes}
-use Rattle.shapes.specs.Climbs.{parentList, reached, mark, rowsOf, Says, Rule}
+use Rattle.shapes.specs.Climbs.{parentList, reached, mark, rowOf, rowsOf, Says, Rule}
 use Rattle.shapes.proofs.Sizes.{reached-below}
 
 -- a cell holds the local number that its climb reaches, and 255 where there is none
 pub cell-is : (L s l k : ℕ) → l < L → k < L → getD (getD (rowsOf L s) l []) k 0 ≡ mark (reached L s l k)
-unfolding rowsOf
+unfolding rowsOf rowOf
 cell-is L s l k hl hk = rw (below-at {A = List ℕ} L _ [] l hl, below-at {A = ℕ} L _ 0 k hk)
 
 -- a number below 255 is told from none
@@ -29,7 +29,7 @@ rule L b s l k hl hk = rw (cell-is L s l k hl hk) (says (reached L s l k) (λ j 
 
 -- a number that is no shape has only 255
 pub no-shape : (L s : ℕ) → length (shapes L) ≤ s → rowsOf L s ≡ below L (λ l. below L (λ k. 255))
-unfolding rowsOf reached bind
+unfolding rowsOf rowOf reached bind
 no-shape L s h = ap (λ (o : Option Walk). below L (λ l. below L (λ k. mark (bind o (λ w. up (parentList w) k l))))) (at-past (shapes L) s h)
 
 -- the paper's limit has 23 shapes

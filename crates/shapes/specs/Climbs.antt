@@ -33,8 +33,11 @@ abbrev pub mark : Option ℕ → ℕ
 mark o = Option·getD o 255
 
 -- a shape's part of the shape table: a row of climbs for each local number
+unfoldable pub rowOf : ℕ → ℕ → ℕ → List ℕ
+rowOf L s l = below L (λ k. mark (reached L s l k))
+
 unfoldable pub rowsOf : ℕ → ℕ → List (List ℕ)
-rowsOf L s = below L (λ l. below L (λ k. mark (reached L s l k)))
+rowsOf L s = below L (rowOf L s)
 
 -- what a cell says where the climb gives o: the local number reached, which is no 255; or 255 where there is none
 abbrev pub Says : Option ℕ → ℕ → Type 0

@@ -7,7 +7,7 @@ use native.Mathlib.Omega.{arith}
 use Rattle.base.specs.Limits.{groupLimit, shapeCount}
 use Rattle.base.specs.Lists.{each}
 use Rattle.tree.specs.Parents.{entry, parent, up}
-use Rattle.shapes.specs.Climbs.{parentList, reached, rowsOf, Rule}
+use Rattle.shapes.specs.Climbs.{parentList, reached, rowOf, rowsOf, Rule}
 use Rattle.shapes.proofs.Rule.{rule, no-shape}
 use Rattle.shapes.proofs.rows.Statement.{statement}
 use Rattle.shapes.proofs.rows.Tie as tie
@@ -31,7 +31,7 @@ past zero s d = omega arith
 past (suc n) s d = omega (arith, past n s (d .0), d .1)
 
 pub rows-spec : {M : Type 1} → statement M
-unfolding rowsOf reached parentList up parent entry bind each
+unfolding rowsOf rowOf reached parentList up parent entry bind each
 rows-spec =
     tie.close
     (tie.spec

@@ -1,0 +1,100 @@
+-- A shape's own parent list forms one tree, so a local number has climbs up to its depth in the shape and none past it. Assumes nothing.
+use mathlib.Core.Path.{_≡_, refl, sym, ap, _∙_}
+use mathlib.Core.List.{List, [], _∷_}
+use mathlib.Core.Option.{Option, none, some, bind, bind-eq-some-iff, Option·elim, Option·none-ne-some}
+use Prim.Native.Nat.{ℕ, zero, suc, _+_, _≤_, _<_}
+use native.Mathlib.Omega.{arith}
+use native.Mathlib.Nat.{not-suc-le-zero}
+use native.Mathlib.Decide.{ℕ-discrete}
+use lib.ListN.{length, getD, getElem?, drop}
+use Rattle.base.proofs.Lists.{at-in, at-past, below-at}
+use Rattle.tree.specs.Parents.{topMark, word, depth}
+use Rattle.tree.specs.Parents.{up as climbUp}
+use Rattle.tree.specs.Faults.{Tree}
+use Rattle.tree.proofs.Climbing.{parent-in, up-step, entry-in, entry-some, entry-past, up-in}
+use Rattle.tree.proofs.Depths.{up-some, up-none, up-depth}
+use Rattle.shapes.specs.Walks.{down, up, Walk, shapes}
+use Rattle.shapes.specs.Climbs.{parents, parentList, reached, localDepth, mark, rowOf}
+use Rattle.shapes.proofs.Sizes.{shape-fits, reached-below}
+
+-- the local numbers on a path are below m
+abbrev Low : ℕ → List ℕ → Type 0
+Low m path = (i : ℕ) → getD path i 0 < m
+
+low-drop : (m : ℕ) (path : List ℕ) → Low m path → Low m (drop 1 path)
+low-drop m [] h i = h i
+low-drop m (x ∷ path) h i = h (suc i)
+
+low-push : (m : ℕ) (path : List ℕ) → Low m path → Low (suc m) (m ∷ path)
+low-push m path h zero = omega arith
+low-push m path h (suc i) = omega (arith, h i)
+
+-- a parent's local number is lower
+parents-low : (w : Walk) (path : List ℕ) (m : ℕ) → Low m path → (i : ℕ) → i < length (parents w path m) → getD (parents w path m) i 0 < m + i
+parents-low [] path m h i b = absurd (not-suc-le-zero b)
+parents-low (down ∷ w) path m h zero b = omega (arith, h 0)
+parents-low (down ∷ w) path m h (suc i) b = omega (arith, parents-low w (m ∷ path) (suc m) (low-push m path h) i (omega arith))
+parents-low (up ∷ w) path m h i b = parents-low w (drop 1 path) m (low-drop m path h) i b
+
+low-start : Low 1 (0 ∷ [])
+low-start zero = omega arith
+low-start (suc i) = omega arith
+
+module _ (w : Walk) where
+  word-low : (v : ℕ) → v < length (parentList w) → (v ≡ 0 → ⊥) → word (parentList w) v < v
+  unfolding parentList
+  word-low zero h n = absurd (n refl)
+  word-low (suc i) h n = omega (arith, parents-low w (0 ∷ []) 1 low-start i (omega arith))
+
+  root-is : getElem? (parentList w) 0 ≡ some topMark
+  unfolding parentList
+  root-is = refl
+
+  to-root : (m v : ℕ) → v < m → v < length (parentList w) → (k : ℕ) × (climbUp (parentList w) k v ≡ some 0)
+  unfolding climbUp
+  to-root zero v h b = absurd (not-suc-le-zero h)
+  to-root (suc m) v h b = go (ℕ-discrete v 0) (to-root m (word (parentList w) v))
+    where
+      go : Dec (v ≡ 0) → (word (parentList w) v < m → word (parentList w) v < length (parentList w) → (k : ℕ) × (climbUp (parentList w) k (word (parentList w) v) ≡ some 0))
+          → (k : ℕ) × (climbUp (parentList w) k v ≡ some 0)
+      go (yes z) ih = (0, entry-in (parentList w) v b ∙ ap some z)
+      go (no z) ih =
+          let p = word-low v b z in
+          let r = ih (omega arith) (omega arith) in
+          (suc (r .0), up-step (parentList w) (r .0) v (word (parentList w) v) (parent-in (parentList w) v b (omega arith)) ∙ r .1)
+
+  pub shape-tree : Tree (parentList w)
+  shape-tree = record {
+    root = 0;
+    marked = root-is;
+    others = λ v h n. omega (arith, word-low v h n);
+    climbs = λ v h. to-root (suc v) v (omega arith) h;
+  }
+
+-- for a limit up to 255, and a local number l of shape s
+module _ (L : ℕ) (small : L ≤ 255) (s l : ℕ) where
+  shape-of : (w : Walk) → getElem? (shapes L) s ≡ some w → (k : ℕ) → (reached L s l k ≡ climbUp (parentList w) k l) × (localDepth L s l ≡ depth (parentList w) l)
+  unfolding reached localDepth bind Option·elim
+  shape-of w e k = (rw e, rw e)
+
+  -- what is reached by no climb is the number itself, below the limit
+  pub local-in : (j : ℕ) → reached L s l 0 ≡ some j → (w : Walk) × (getElem? (shapes L) s ≡ some w) × (l < length (parentList w)) × (j ≡ l)
+  unfolding reached climbUp
+  local-in j e =
+      let t = bind-eq-some-iff (getElem? (shapes L) s) (λ w. climbUp (parentList w) 0 l) .0 e in
+      let q = entry-some (parentList (t .0)) l j (t .2) in
+      (t .0, t .1, omega (arith, q .0, q .1), sym (q .0))
+
+  module _ (j : ℕ) (e : reached L s l 0 ≡ some j) where
+    pub reached-some : (k : ℕ) → k ≤ localDepth L s l → (i : ℕ) × (reached L s l k ≡ some i)
+    reached-some k h =
+        let (w, q, b, z) = local-in j e in
+        let o = shape-of w q k in
+        let r = up-some (parentList w) (omega (arith, shape-fits L s w q)) (shape-tree w) k l b (omega (arith, o .1)) in
+        (r .0, o .0 ∙ r .1)
+
+    pub reached-none : (k : ℕ) → localDepth L s l < k → reached L s l k ≡ none
+    reached-none k h =
+        let (w, q, b, z) = local-in j e in
+        let o = shape-of w q k in
+        o .0 ∙ up-none (parentList w) (omega (arith, shape-fits L s w q)) (shape-tree w) k l (omega (arith, o .1))
