@@ -93,6 +93,11 @@ each-at zero i f d k h = absurd (not-suc-le-zero h)
 each-at (suc n) i f d zero h = ap f (sym (add-zero i))
 each-at (suc n) i f d (suc k) h = each-at n (suc i) f d k (le-of-suc-le-suc h) ∙ ap f (omega arith)
 
+pub each-length {ℓ} : {A : Type ℓ} (n i : ℕ) (f : ℕ → A) → length (each n i f) ≡ n
+unfolding each
+each-length zero i f = refl
+each-length (suc n) i f = ap suc (each-length n (suc i) f)
+
 -- what stands at place k of `below`
 pub below-at {ℓ} : {A : Type ℓ} (n : ℕ) (f : ℕ → A) (d : A) (k : ℕ) → k < n → getD (below n f) k d ≡ f k
 below-at n f d k h = each-at n 0 f d k h ∙ ap f (zero-add k)
@@ -123,3 +128,9 @@ module _ {ℓ} {A : Type ℓ} (P : A → Type 0) where
   pub all-map {κ} : {B : Type κ} (Q : B → Type 0) (f : B → A) → ((x : B) → Q x → P (f x)) → (l : List B) → All Q l → All P (map f l)
   all-map Q f g [] h = tt
   all-map Q f g (x ∷ l) h = (g x (h .0), all-map Q f g l (h .1))
+
+-- within a list the default does not matter
+pub at-any {ℓ} : {A : Type ℓ} (l : List A) (i : ℕ) (a b : A) → i < length l → getD l i a ≡ getD l i b
+at-any [] i a b h = absurd (not-suc-le-zero h)
+at-any (x ∷ l) zero a b h = refl
+at-any (x ∷ l) (suc i) a b h = at-any l i a b (le-of-suc-le-suc h)

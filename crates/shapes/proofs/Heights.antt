@@ -1,21 +1,22 @@
 -- A shape's own parent list forms one tree, so a local number has climbs up to its depth in the shape and none past it. Assumes nothing.
 use mathlib.Core.Path.{_≡_, refl, sym, ap, _∙_}
+use mathlib.Core.Logic.{_⊎_, inl, inr}
 use mathlib.Core.List.{List, [], _∷_}
 use mathlib.Core.Option.{Option, none, some, bind, bind-eq-some-iff, Option·elim, Option·none-ne-some}
 use Prim.Native.Nat.{ℕ, zero, suc, _+_, _≤_, _<_}
 use native.Mathlib.Omega.{arith}
 use native.Mathlib.Nat.{not-suc-le-zero}
-use native.Mathlib.Decide.{ℕ-discrete}
-use lib.ListN.{length, getD, getElem?, drop}
-use Rattle.base.proofs.Lists.{at-in, at-past, below-at}
+use native.Mathlib.Decide.{ℕ-discrete, decLt}
+use lib.ListN.{length, getD, getElem?, drop, List·getD-eq-default}
+use Rattle.base.proofs.Lists.{below-at, each-length}
 use Rattle.tree.specs.Parents.{topMark, word, depth}
 use Rattle.tree.specs.Parents.{up as climbUp}
 use Rattle.tree.specs.Faults.{Tree}
-use Rattle.tree.proofs.Climbing.{parent-in, up-step, entry-in, entry-some, entry-past, up-in}
-use Rattle.tree.proofs.Depths.{up-some, up-none, up-depth}
+use Rattle.tree.proofs.Climbing.{parent-in, parent-some, up-step, up-first, up-from, entry-in, entry-some}
+use Rattle.tree.proofs.Depths.{up-some, up-none}
 use Rattle.shapes.specs.Walks.{down, up, Walk, shapes}
 use Rattle.shapes.specs.Climbs.{parents, parentList, reached, localDepth, mark, rowOf}
-use Rattle.shapes.proofs.Sizes.{shape-fits, reached-below}
+use Rattle.shapes.proofs.Sizes.{shape-fits}
 
 -- the local numbers on a path are below m
 abbrev Low : ℕ → List ℕ → Type 0
@@ -49,6 +50,10 @@ module _ (w : Walk) where
   root-is : getElem? (parentList w) 0 ≡ some topMark
   unfolding parentList
   root-is = refl
+
+  pub root-word : word (parentList w) 0 ≡ topMark
+  unfolding parentList
+  root-word = refl
 
   to-root : (m v : ℕ) → v < m → v < length (parentList w) → (k : ℕ) × (climbUp (parentList w) k v ≡ some 0)
   unfolding climbUp
@@ -98,3 +103,43 @@ module _ (L : ℕ) (small : L ≤ 255) (s l : ℕ) where
         let (w, q, b, z) = local-in j e in
         let o = shape-of w q k in
         o .0 ∙ up-none (parentList w) (omega (arith, shape-fits L s w q)) (shape-tree w) k l (omega (arith, o .1))
+
+-- a climb lowers the local number
+climb-low : (w : Walk) → length (parentList w) ≤ topMark → (k l i : ℕ) → climbUp (parentList w) k l ≡ some i → k + i ≤ l
+unfolding climbUp
+climb-low w small zero l i e = omega (arith, entry-some (parentList w) l i e .0)
+climb-low w small (suc k) l i e =
+    let (p, q, r) = up-first (parentList w) k l i e in
+    let o = parent-some (parentList w) l p q in
+    let z : l ≡ 0 → ⊥ = λ z. omega (arith, o .1, o .2, ap (word (parentList w)) z, root-word w) in
+    omega (arith, climb-low w small k p i r, o .2, word-low w l (o .0) z)
+
+within : (L : ℕ) → L ≤ 255 → (s l k i : ℕ) → reached L s l k ≡ some i → (l < L) × (k ≤ l)
+unfolding reached
+within L small s l k i e =
+    let t = bind-eq-some-iff (getElem? (shapes L) s) (λ w. climbUp (parentList w) k l) .0 e in
+    let b = shape-fits L s (t .0) (t .1) in
+    (omega (arith, up-from (parentList (t .0)) k l i (t .2)), omega (arith, climb-low (t .0) (omega arith) k l i (t .2)))
+
+-- so L climbs, or a local number from L on, reach nothing
+pub reached-past : (L : ℕ) → L ≤ 255 → (s l k : ℕ) → (L ≤ l) ⊎ (L ≤ k) → reached L s l k ≡ none
+reached-past L small s l k h = go (reached L s l k) refl h
+  where
+    go : (o : Option ℕ) → reached L s l k ≡ o → (L ≤ l) ⊎ (L ≤ k) → o ≡ none
+    go none e h = refl
+    go (some i) e h = absurd (let r = within L small s l k i e in bad h (r .0) (r .1))
+      where
+        bad : (L ≤ l) ⊎ (L ≤ k) → l < L → k ≤ l → ⊥
+        bad (inl a) b c = omega arith
+        bad (inr a) b c = omega arith
+
+-- the cell of a row at any number of climbs, 255 past its end
+pub row-at : (L : ℕ) → L ≤ 255 → (s l k : ℕ) → getD (rowOf L s l) k 255 ≡ mark (reached L s l k)
+unfolding rowOf
+row-at L small s l k = go (decLt k L)
+  where
+    go : Dec (k < L) → getD (rowOf L s l) k 255 ≡ mark (reached L s l k)
+    go (yes h) = below-at L (λ j. mark (reached L s l j)) 255 k h
+    go (no h) =
+        List·getD-eq-default (rowOf L s l) 255 (omega (arith, each-length L 0 (λ j. mark (reached L s l j))))
+        ∙ sym (ap mark (reached-past L small s l k (inr (omega arith))))

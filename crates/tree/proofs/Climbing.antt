@@ -66,6 +66,11 @@ module _ (ps : List ℕ) where
   up-in zero v u e = entry-some v u e .1
   up-in (suc k) v u e = let r = up-first k v u e in up-in k (r .0) u (r .2)
 
+  pub up-from : (k v u : ℕ) → up ps k v ≡ some u → v < length ps
+  unfolding up
+  up-from zero v u e = let r = entry-some v u e in omega (arith, r .0, r .1)
+  up-from (suc k) v u e = let r = up-first k v u e in parent-some v (r .0) (r .1) .0
+
   -- the climb of v meets the top mark within m entries
   unfoldable pub meets : ℕ → ℕ → Bool
   meets m v = some? (λ u. eqb (word ps u) topMark) (climbWithin ps m v)
