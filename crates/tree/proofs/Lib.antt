@@ -3,4 +3,5 @@ pub mod Climbing
 pub mod Preorders
 pub mod OneTree
 pub mod Depths
+pub mod Forests
 pub mod Theorems
