@@ -4,4 +4,6 @@ pub mod Preorders
 pub mod OneTree
 pub mod Depths
 pub mod Forests
+pub mod Levels
+pub mod Positions
 pub mod Theorems
