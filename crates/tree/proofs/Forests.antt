@@ -1,6 +1,6 @@
 -- The forest of any list, loops included: who is a child, what meets the top, what is below an entry, who is in the preorder. Assumes nothing.
 use mathlib.Core.Path.{_≡_, refl, sym, ap, _∙_}
-use mathlib.Core.List.{List, [], _∷_}
+use mathlib.Core.List.{List, [], _∷_, _++_, append-assoc}
 use mathlib.Core.Bool.{true}
 use mathlib.Core.Option.{some}
 use Prim.Native.Nat.{ℕ, zero, suc, _+_, _≤_, _<_}
@@ -24,6 +24,12 @@ pub forest-length : (f : Forest) → length (preorder f) ≡ forestSize f
 unfolding preorder forestSize
 forest-length empty = refl
 forest-length (node v b later) = omega (arith, length-append (preorder b) (preorder later), forest-length b, forest-length later)
+
+-- the preorder of two first levels joined
+pub plant-append : (f : ℕ → Forest) (a b : List ℕ) → preorder (plant f (a ++ b)) ≡ preorder (plant f a) ++ preorder (plant f b)
+unfolding preorder plant
+plant-append f [] b = refl
+plant-append f (v ∷ a) b = rw (plant-append f a b) (simp append-assoc)
 
 -- a measure of forests that an entry adds 1 to, and later siblings take nothing from
 pub record Measure (m : Forest → ℕ) : Type 0 where

@@ -6,4 +6,5 @@ pub mod Depths
 pub mod Forests
 pub mod Levels
 pub mod Positions
+pub mod Intervals
 pub mod Theorems
