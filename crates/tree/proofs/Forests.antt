@@ -31,7 +31,7 @@ unfolding preorder plant
 plant-append f [] b = refl
 plant-append f (v ∷ a) b = rw (plant-append f a b) (simp append-assoc)
 
--- a measure of forests that an entry adds 1 to, and later siblings take nothing from
+-- a measure of forests: an entry adds 1 at least to what is below it, and takes nothing from its later siblings
 pub record Measure (m : Forest → ℕ) : Type 0 where
   pub inner : (v : ℕ) (b later : Forest) → suc (m b) ≤ m (node v b later)
   pub later : (v : ℕ) (b later : Forest) → m later ≤ m (node v b later)
