@@ -1,3 +1,4 @@
 -- Laws of the functions on lists.
 pub mod Lists
 pub mod Counts
+pub mod Places

@@ -68,8 +68,16 @@ module _ (ps : List ℕ) where
 
   pub up-from : (k v u : ℕ) → up ps k v ≡ some u → v < length ps
   unfolding up
-  up-from zero v u e = let r = entry-some v u e in omega (arith, r .0, r .1)
-  up-from (suc k) v u e = let r = up-first k v u e in parent-some v (r .0) (r .1) .0
+  up-from zero v u e = let (q, h) = entry-some v u e in omega arith
+  up-from (suc k) v u e = let (p, q, r) = up-first k v u e in parent-some v p q .0
+
+  pub up-add : (k j v w : ℕ) → up ps k v ≡ some w → up ps (k + j) v ≡ up ps j w
+  unfolding up
+  up-add zero j v w e = let z : 0 + j ≡ j = omega arith in rw z (ap (up ps j) (entry-some v w e .0))
+  up-add (suc k) j v w e =
+      let (p, q, r) = up-first k v w e in
+      let z : suc k + j ≡ suc (k + j) = omega arith in
+      rw z (up-step (k + j) v p q ∙ up-add k j p w r)
 
   -- the climb of v meets the top mark within m entries
   unfoldable pub meets : ℕ → ℕ → Bool

@@ -49,24 +49,41 @@ module _ (ps : List ℕ) (small : length ps ≤ topMark) where
   climb-one zero v h = absurd (not-suc-le-zero h)
   climb-one (suc m) v h = omega arith
 
+  pub climb-most : (m v : ℕ) → length (climbWithin ps m v) ≤ m
+  unfolding climbWithin Option·elim
+  climb-most zero v = omega arith
+  climb-most (suc m) v = go (parent ps v) (climb-most m)
+    where
+      go : (o : Option ℕ) → ((p : ℕ) → length (climbWithin ps m p) ≤ m) → suc (length (Option·elim o [] (climbWithin ps m))) ≤ suc m
+      go none ih = omega arith
+      go (some p) ih = omega (arith, ih p)
+
+  -- on any list, of an entry that meets the top: its climb is itself and its parent's climb, and its depth is its parent's plus 1
+  pub meets-climb : (v p : ℕ) → meetsTop ps v ≡ true → parent ps v ≡ some p → climb ps v ≡ v ∷ climb ps p
+  unfolding meetsTop meets
+  meets-climb v p m e = let (h, q, w) = parent-some ps v p e in climb-step (length ps) v p (omega arith) m e
+
+  pub meets-depth : (v p : ℕ) → meetsTop ps v ≡ true → parent ps v ≡ some p → depth ps v ≡ suc (depth ps p)
+  unfolding depth
+  meets-depth v p m e =
+      let (h, q, w) = parent-some ps v p e in
+      rw (meets-climb v p m e) (omega (arith, climb-one (length ps) p (omega arith)))
+
+  pub end-depth : (v : ℕ) → v < length ps → parent ps v ≡ none → depth ps v ≡ 0
+  unfolding depth
+  end-depth v h e = rw (climb-end (length ps) v (omega arith) e)
+
   module _ (tree : Tree ps) where
     -- the climb of an entry: itself, and its parent's climb
     pub climb-parent : (v p : ℕ) → parent ps v ≡ some p → climb ps v ≡ v ∷ climb ps p
-    unfolding meetsTop meets
-    climb-parent v p e =
-        let h : v < length ps = parent-some ps v p e .0 in
-        climb-step (length ps) v p (omega arith) (tree-meets ps small tree v h) e
+    climb-parent v p e = meets-climb v p (tree-meets ps small tree v (parent-some ps v p e .0)) e
 
     -- the top's depth is 0, any other entry's is its parent's plus 1
     pub depth-top : (v : ℕ) → v < length ps → parent ps v ≡ none → depth ps v ≡ 0
-    unfolding depth
-    depth-top v h e = rw (climb-end (length ps) v (omega arith) e)
+    depth-top = end-depth
 
     pub depth-parent : (v p : ℕ) → parent ps v ≡ some p → depth ps v ≡ suc (depth ps p)
-    unfolding depth
-    depth-parent v p e =
-        let h : v < length ps = parent-some ps v p e .0 in
-        rw (climb-parent v p e) (omega (arith, climb-one (length ps) p (omega arith)))
+    depth-parent v p e = meets-depth v p (tree-meets ps small tree v (parent-some ps v p e .0)) e
 
     -- k climbs reach an entry k less deep, and there is one while k is at most the depth
     pub up-depth : (k v u : ℕ) → up ps k v ≡ some u → depth ps v ≡ k + depth ps u

@@ -3,4 +3,8 @@ pub mod Climbing
 pub mod Preorders
 pub mod OneTree
 pub mod Depths
+pub mod Forests
+pub mod Levels
+pub mod Positions
+pub mod Intervals
 pub mod Theorems

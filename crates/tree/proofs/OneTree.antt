@@ -115,14 +115,14 @@ module _ (ps : List ℕ) where
 
   -- a list that forms one tree passes the checks
   module _ (small : length ps ≤ topMark) (tree : Tree ps) where
-    root-in : (tree .root < length ps) × (word ps (tree .root) ≡ topMark)
+    pub root-in : (tree .root < length ps) × (word ps (tree .root) ≡ topMark)
     root-in = at-some ps (tree .root) topMark (tree .marked)
 
     sound-word : (v : ℕ) → v < length ps → Dec (v ≡ tree .root) → (word ps v ≡ topMark) ⊎ (word ps v < length ps)
     sound-word v h (yes q) = inl (ap (word ps) q ∙ root-in .1)
     sound-word v h (no q) = inr (tree .others v h q)
 
-    root-alone : children ps topMark ≡ tree .root ∷ []
+    pub root-alone : children ps topMark ≡ tree .root ∷ []
     root-alone =
         let z : 0 + tree .root ≡ tree .root = omega arith in
         rw z at (places-one ps 0 topMark (tree .root) (root-in .0) (root-in .1) (λ v h n w. omega (arith, tree .others v h n)))
