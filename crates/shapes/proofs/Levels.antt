@@ -1,15 +1,10 @@
 -- The depths of a forest's entries in preorder. Assumes nothing.
 use mathlib.Core.Path.{_≡_, refl}
-use mathlib.Core.List.{List, [], _∷_, _++_}
 use Prim.Native.Nat.{ℕ, suc}
 use native.Mathlib.Omega.{arith}
 use lib.ListN.{length, length-append}
 use Rattle.tree.specs.Forest.{Forest, empty, node, forestSize}
-
--- the depths in preorder of a forest whose first level has depth d
-unfoldable pub levels : ℕ → Forest → List ℕ
-levels d empty = []
-levels d (node v b later) = d ∷ (levels (suc d) b ++ levels d later)
+unfoldable pub use Rattle.shapes.specs.Levels.{levels}
 
 -- an entry, a depth
 pub levels-length : (d : ℕ) (f : Forest) → length (levels d f) ≡ forestSize f
