@@ -4,12 +4,14 @@ ghost use mathlib.Core.List.{[]};
 ghost use Rattle.answers.specs.Answers.{pushed, listed};
 
 // The cells read, in the order read. Places past the count are 0.
+#[repr(C)]
 pub struct Cells {
     pub at: [u32; 15],
     pub count: u32,
 }
 
 // An answer: its number and result word, up to fifteen cell numbers and their count.
+#[repr(C)]
 pub struct Answer {
     pub number: u32,
     pub word: u32,
