@@ -1,0 +1,2 @@
+-- The long paths and the ladders of a prepared table.
+pub mod Paths
