@@ -147,6 +147,9 @@ module _ (ps : List ℕ) (small : length ps ≤ topMark) (tree : Tree ps) where
   pub path-parent : (t i : ℕ) → t < length ps → suc i < height ps t → parent ps (getD (pathFrom ps t) (suc i) 0) ≡ some (getD (pathFrom ps t) i 0)
   path-parent t i h b = long-child (getD (pathFrom ps t) i 0) (getD (pathFrom ps t) (suc i) 0) (path-next t i h b) (path-in t i h (omega arith) .0) .0
 
+  pub path-no-top : (t i : ℕ) → t < length ps → suc i < height ps t → pathTop ps (getD (pathFrom ps t) (suc i) 0) ≡ false
+  path-no-top t i h b = long-no-top (getD (pathFrom ps t) i 0) (getD (pathFrom ps t) (suc i) 0) (path-next t i h b) (path-in t i h (omega arith) .0)
+
   -- so climbs along the path pass its entries, up to the top
   pub path-up : (t k i : ℕ) → t < length ps → k ≤ i → i < height ps t → up ps k (getD (pathFrom ps t) i 0) ≡ some (getD (pathFrom ps t) (i - k) 0)
   unfolding up
