@@ -2,3 +2,5 @@
 pub mod Lists
 pub mod Counts
 pub mod Places
+pub mod Keeping
+pub mod Joined

@@ -17,18 +17,18 @@ module _ (ps : List ℕ) (small : length ps ≤ topMark) (tree : Tree ps) where
   pub order-length : length (order ps) ≡ length ps
   order-length = meets-full ps small (tree-meets ps small tree)
 
-  once : (v : ℕ) → v < length ps → times v (order ps) ≡ 1
-  once v h = order-once ps small v ∙ ap one (tree-meets ps small tree v h)
+  pub entry-once : (v : ℕ) → v < length ps → times v (order ps) ≡ 1
+  entry-once v h = order-once ps small v ∙ ap one (tree-meets ps small tree v h)
 
   -- so an entry stands at its position
   pub position-in : (v : ℕ) → v < length ps → position ps v < length ps
-  position-in v h = omega (arith, order-length, place-stands v (order ps) (omega (arith, once v h)) .0)
+  position-in v h = omega (arith, order-length, place-stands v (order ps) (omega (arith, entry-once v h)) .0)
 
   pub at-position : (v : ℕ) → v < length ps → getD (order ps) (position ps v) 0 ≡ v
-  at-position v h = place-stands v (order ps) (omega (arith, once v h)) .1
+  at-position v h = place-stands v (order ps) (omega (arith, entry-once v h)) .1
 
   pub position-is : (v i : ℕ) → v < length ps → i < length ps → getD (order ps) i 0 ≡ v → position ps v ≡ i
-  position-is v i h b e = place-is v (order ps) i (omega (arith, once v h)) (omega (arith, order-length)) e
+  position-is v i h b e = place-is v (order ps) i (omega (arith, entry-once v h)) (omega (arith, order-length)) e
 
   -- and at each position stands an entry, which has that position
   pub order-in : (i : ℕ) → i < length ps → getD (order ps) i 0 < length ps

@@ -1,0 +1,3 @@
+-- The long paths and the ladders of a prepared table.
+pub mod Paths
+pub mod OwnPaths
