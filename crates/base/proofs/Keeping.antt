@@ -1,17 +1,18 @@
--- Laws of `keep`, `index` and `has`: what passes a test, and where the first stands that does. Assumes nothing.
+-- Laws of `keep`, `index`, `every` and `has`: what passes a test, and where the first stands that does. Assumes nothing.
 use mathlib.Core.Path.{_≡_, refl, sym, ap, _∙_}
 use mathlib.Core.List.{List, [], _∷_, _++_}
 use mathlib.Core.Bool.{Bool, true, false, cond}
 use Prim.Native.Nat.{ℕ, suc, _+_, _≤_, _<_}
 use native.Mathlib.Omega.{arith}
+use native.Mathlib.Decide.{ℕ-discrete}
 use lib.ListN.{length, getD, take, drop}
 use lib.Seq.{split-at}
 use lib.Dec.{eqb}
 use borrow.Author.Tests.{eqb-true, ne-eqb}
-use Rattle.base.specs.Lists.{keep, index, some?, has}
+use Rattle.base.specs.Lists.{keep, index, every, some?, has}
 use Rattle.base.proofs.Lists.{clash}
 use Rattle.base.proofs.Counts.{one, times}
-use Rattle.base.proofs.Places.{times-same}
+use Rattle.base.proofs.Places.{times-same, times-other}
 
 module _ {ℓ} {A : Type ℓ} (test : A → Bool) where
   -- what is kept of two lists joined, and of one that passes with those before and after it
@@ -68,6 +69,35 @@ module _ (test : ℕ → Bool) where
       go true q h false e ih = ih (omega (arith, ap one e))
       go false q h b e ih = ih h
 
+  pub keep-in : (x : ℕ) (l : List ℕ) → 1 ≤ times x (keep test l) → (test x ≡ true) × (1 ≤ times x l)
+  keep-in x l h = let e = keep-passes x l h in (e, omega (arith, keep-times x l e))
+
+  pub keep-none : (l : List ℕ) → ((x : ℕ) → 1 ≤ times x l → test x ≡ false) → keep test l ≡ []
+  unfolding keep times
+  keep-none [] h = refl
+  keep-none (y ∷ l) h = rw (h y (omega (arith, times-same y y l refl))) (keep-none l (λ x k. h x (omega arith)))
+
+  -- all of a list pass, or one of it fails
+  pub every-true : (l : List ℕ) → every test l ≡ true → (x : ℕ) → 1 ≤ times x l → test x ≡ true
+  unfolding every times
+  every-true [] e x h = absurd (omega arith)
+  every-true (y ∷ l) e x h = go (test y) refl e (ℕ-discrete x y) (λ d. every-true l d x)
+    where
+      go : (t : Bool) → test y ≡ t → cond t (every test l) false ≡ true → Dec (x ≡ y) → (every test l ≡ true → 1 ≤ times x l → test x ≡ true) → test x ≡ true
+      go true t e (yes q) ih = ap test q ∙ t
+      go true t e (no q) ih = ih e (omega (arith, times-other x y l q))
+      go false t e d ih = clash e
+
+  pub every-false : (l : List ℕ) → every test l ≡ false → (x : ℕ) × (1 ≤ times x l) × (test x ≡ false)
+  unfolding every times
+  every-false [] e = clash (sym e)
+  every-false (y ∷ l) e = go (test y) refl e (every-false l)
+    where
+      go : (t : Bool) → test y ≡ t → cond t (every test l) false ≡ false → (every test l ≡ false → (x : ℕ) × (1 ≤ times x l) × (test x ≡ false))
+          → (x : ℕ) × (1 ≤ times x (y ∷ l)) × (test x ≡ false)
+      go true t e ih = let (x, h, q) = ih e in (x, omega arith, q)
+      go false t e ih = (y, omega (arith, times-same y y l refl), t)
+
   -- the first that passes, behind those that fail
   pub index-is : (a : List ℕ) (x : ℕ) (b : List ℕ) → ((y : ℕ) → 1 ≤ times y a → test y ≡ false) → test x ≡ true → index test (a ++ (x ∷ b)) ≡ length a
   unfolding index times
@@ -92,3 +122,10 @@ times-has (y ∷ l) x h = go (eqb x y) h (times-has l x)
     go : (b : Bool) → 1 ≤ one b + times x l → (1 ≤ times x l → has l x ≡ true) → cond b true (has l x) ≡ true
     go true h ih = refl
     go false h ih = ih (omega arith)
+
+pub has-not : (l : List ℕ) (x : ℕ) → (1 ≤ times x l → ⊥) → has l x ≡ false
+has-not l x n = go (has l x) refl
+  where
+    go : (b : Bool) → has l x ≡ b → b ≡ false
+    go true e = absurd (n (has-times l x e))
+    go false e = refl

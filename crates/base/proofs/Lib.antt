@@ -4,3 +4,4 @@ pub mod Counts
 pub mod Places
 pub mod Keeping
 pub mod Joined
+pub mod Rows

@@ -1,3 +1,4 @@
--- The long paths and the ladders of a prepared table.
+-- The mathematics of the lookup on a prepared table: long paths, jump nodes, groups.
 pub mod Paths
 pub mod OwnPaths
+pub mod Jumps

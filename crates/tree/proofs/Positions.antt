@@ -1,9 +1,11 @@
 -- Of a list that forms one tree: every entry has one position in the preorder. Assumes nothing.
-use mathlib.Core.Path.{_≡_, refl, ap, _∙_}
+use mathlib.Core.Path.{_≡_, refl, sym, ap, _∙_}
 use mathlib.Core.List.{List}
 use Prim.Native.Nat.{ℕ, _≤_, _<_}
 use native.Mathlib.Omega.{arith}
-use lib.ListN.{length, getD}
+use lib.ListN.{length, getD, take, length-take}
+use lib.Seq.{getD-take}
+use Rattle.base.specs.Lists.{place}
 use Rattle.base.proofs.Counts.{one, times}
 use Rattle.base.proofs.Places.{place-stands, place-is}
 use Rattle.tree.specs.Parents.{topMark}
@@ -36,3 +38,13 @@ module _ (ps : List ℕ) (small : length ps ≤ topMark) (tree : Tree ps) where
 
   pub position-of : (i : ℕ) → i < length ps → position ps (getD (order ps) i 0) ≡ i
   position-of i b = position-is (getD (order ps) i 0) i (order-in i b) b refl
+
+  -- what is among the first i has a position below i
+  pub position-before : (x i : ℕ) → 1 ≤ times x (take i (order ps)) → (x < length ps) × (position ps x < i)
+  position-before x i h =
+      let k = place x (take i (order ps)) in
+      let (b, e) = place-stands x (take i (order ps)) h in
+      let c : k < i = omega (arith, length-take i (order ps)) in
+      let n : k < length ps = omega (arith, length-take i (order ps), order-length) in
+      let q : getD (order ps) k 0 ≡ x = sym (getD-take i (order ps) k 0 c) ∙ e in
+      (omega (arith, order-in k n, q), omega (arith, position-of k n, ap (position ps) q))
