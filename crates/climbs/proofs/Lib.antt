@@ -2,3 +2,4 @@
 pub mod Paths
 pub mod OwnPaths
 pub mod Jumps
+pub mod Groups
