@@ -15,14 +15,14 @@ use Rattle.base.specs.Limits.{microMark}
 use Rattle.base.proofs.Lists.{clash, at-any, index-map}
 use Rattle.base.proofs.Counts.{times, times-append}
 use Rattle.base.proofs.Places.{place-is}
-use Rattle.base.proofs.Keeping.{keep-append, keep-yes, keep-split, keep-most, keep-in, keep-none, index-is, times-has, has-not}
+use Rattle.base.proofs.Keeping.{keep-append, keep-yes, keep-most, keep-in, keep-none, index-is, times-has, has-not}
 use Rattle.tree.specs.Parents.{topMark, parent, up, depth}
 use Rattle.tree.specs.Forest.{preorder, under, size, family, order, position}
 use Rattle.tree.specs.Level.{Ancestor}
 use Rattle.tree.specs.Faults.{Tree}
 use Rattle.tree.proofs.Climbing.{entry-some, parent-some, up-first}
 use Rattle.tree.proofs.Depths.{depth-parent}
-use Rattle.tree.proofs.Positions.{order-length, position-in, at-position, position-before}
+use Rattle.tree.proofs.Positions.{order-length, at-position, position-before, order-keep}
 use Rattle.tree.proofs.Intervals.{ancestor-in, ancestor-self, ancestor-trans, ancestor-parent, family-length, family-at, family-take, family-ancestor, interval, ancestor-family, family-once, under-up}
 use Rattle.table.specs.Groups.{micro, groupRoot, groupRoots, groups, microKind}
 use Rattle.climbs.proofs.Jumps.{micro-size, micro-down}
@@ -76,6 +76,7 @@ pub record Grouped (L : ℕ) (ps : List ℕ) (v r g l : ℕ) : Type 0 where
   pub kinded : microKind L ps v ≡ microMark + 8 * g + l
 
 module _ (ps : List ℕ) (small : length ps ≤ topMark) (tree : Tree ps) (L : ℕ) where
+  -- there are no more groups than entries
   pub groups-few : length (groupRoots L ps) ≤ length ps
   groups-few = omega (arith, keep-most (groupRoot L ps) (order ps), order-length ps small tree)
 
@@ -129,14 +130,7 @@ module _ (ps : List ℕ) (small : length ps ≤ topMark) (tree : Tree ps) (L : �
       go (no k) =
           sym (upper-root s r f e (interval ps small tree s r hs hr .1 (omega arith, omega (arith, interval ps small tree s v hs hv .0 b .1, interval ps small tree r v hr hv .0 a .0))))
 
-  -- a root's number is how many roots stand before it
-  pub roots-split : (r : ℕ) → r < length ps → groupRoot L ps r ≡ true
-      → groupRoots L ps ≡ rootsWithin L ps (position ps r) ++ (r ∷ keep (groupRoot L ps) (drop (suc (position ps r)) (order ps)))
-  roots-split r h e =
-      let q = at-position ps small tree r h in
-      rw q at (keep-split (groupRoot L ps) (order ps) (position ps r) 0 (omega (arith, position-in ps small tree r h, order-length ps small tree)) (ap (groupRoot L ps) q ∙ e))
-
-  -- of a group it is the only root
+  -- of its group a root is the only one
   roots-upto : (r i : ℕ) → r < length ps → groupRoot L ps r ≡ true → i < size ps r → rootsWithin L ps (position ps r + suc i) ≡ rootsWithin L ps (position ps r) ++ (r ∷ [])
   roots-upto r i h e b =
       let l = preorder (under ps r) in
@@ -173,7 +167,7 @@ module _ (ps : List ℕ) (small : length ps ≤ topMark) (tree : Tree ps) (L : �
     unfolding groups
     group-number =
         index-map (λ group. has group v) (family ps) (groupRoots L ps)
-        ∙ ap (index (λ s. has (family ps s) v)) (roots-split r hr e)
+        ∙ ap (index (λ s. has (family ps s) v)) (order-keep ps small tree (groupRoot L ps) r hr e)
         ∙ index-is (λ s. has (family ps s) v) (rootsWithin L ps (position ps r)) r (keep (groupRoot L ps) (drop (suc (position ps r)) (order ps)))
         earlier
         (times-has (family ps r) v (ancestor-family ps small tree r v a))
@@ -182,7 +176,7 @@ module _ (ps : List ℕ) (small : length ps ≤ topMark) (tree : Tree ps) (L : �
     listed-at =
         let before = rootsWithin L ps (position ps r) in
         let rest = keep (groupRoot L ps) (drop (suc (position ps r)) (order ps)) in
-        let s = roots-split r hr e in
+        let s = order-keep ps small tree (groupRoot L ps) r hr e in
         (omega (arith, ap length s, length-append before (r ∷ rest)), rw s (getD-at before r rest 0 (length before) refl))
 
     group-is : getD (groups L ps) (length (rootsWithin L ps (position ps r))) [] ≡ family ps r

@@ -3,3 +3,5 @@ pub mod Paths
 pub mod OwnPaths
 pub mod Jumps
 pub mod Groups
+pub mod Words
+pub mod Microtrees

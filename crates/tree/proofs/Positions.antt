@@ -1,13 +1,15 @@
 -- Of a list that forms one tree: every entry has one position in the preorder. Assumes nothing.
 use mathlib.Core.Path.{_≡_, refl, sym, ap, _∙_}
-use mathlib.Core.List.{List}
-use Prim.Native.Nat.{ℕ, _≤_, _<_}
+use mathlib.Core.List.{List, _∷_, _++_}
+use mathlib.Core.Bool.{Bool, true}
+use Prim.Native.Nat.{ℕ, suc, _≤_, _<_}
 use native.Mathlib.Omega.{arith}
-use lib.ListN.{length, getD, take, length-take}
+use lib.ListN.{length, getD, take, drop, length-take}
 use lib.Seq.{getD-take}
-use Rattle.base.specs.Lists.{place}
+use Rattle.base.specs.Lists.{keep, place}
 use Rattle.base.proofs.Counts.{one, times}
 use Rattle.base.proofs.Places.{place-stands, place-is}
+use Rattle.base.proofs.Keeping.{keep-split}
 use Rattle.tree.specs.Parents.{topMark}
 use Rattle.tree.specs.Forest.{order, position}
 use Rattle.tree.specs.Faults.{Tree}
@@ -48,3 +50,10 @@ module _ (ps : List ℕ) (small : length ps ≤ topMark) (tree : Tree ps) where
       let n : k < length ps = omega (arith, length-take i (order ps), order-length) in
       let q : getD (order ps) k 0 ≡ x = sym (getD-take i (order ps) k 0 c) ∙ e in
       (omega (arith, order-in k n, q), omega (arith, position-of k n, ap (position ps) q))
+
+  -- of what passes a test, an entry comes behind those that stand before it
+  pub order-keep : (test : ℕ → Bool) (v : ℕ) → v < length ps → test v ≡ true
+      → keep test (order ps) ≡ keep test (take (position ps v) (order ps)) ++ (v ∷ keep test (drop (suc (position ps v)) (order ps)))
+  order-keep test v h e =
+      let q = at-position v h in
+      rw q at (keep-split test (order ps) (position ps v) 0 (omega (arith, position-in v h, order-length)) (ap test q ∙ e))
