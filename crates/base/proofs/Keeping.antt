@@ -92,3 +92,10 @@ times-has (y ∷ l) x h = go (eqb x y) h (times-has l x)
     go : (b : Bool) → 1 ≤ one b + times x l → (1 ≤ times x l → has l x ≡ true) → cond b true (has l x) ≡ true
     go true h ih = refl
     go false h ih = ih (omega arith)
+
+pub has-no : (l : List ℕ) (x : ℕ) → times x l ≡ 0 → has l x ≡ false
+has-no l x h = go (has l x) refl
+  where
+    go : (b : Bool) → has l x ≡ b → b ≡ false
+    go true e = absurd (omega (arith, has-times l x e))
+    go false e = refl
