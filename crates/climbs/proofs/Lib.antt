@@ -3,3 +3,4 @@ pub mod Paths
 pub mod OwnPaths
 pub mod Ladders
 pub mod Room
+pub mod Filling

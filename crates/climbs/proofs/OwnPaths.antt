@@ -10,7 +10,7 @@ use lib.ListN.{length, getD, take, drop, length-append}
 use lib.Seq.{getD-at}
 use Rattle.base.specs.Lists.{keep, index, place, has}
 use Rattle.base.proofs.Lists.{clash}
-use Rattle.base.proofs.Counts.{one, times, times-append}
+use Rattle.base.proofs.Counts.{times, times-append}
 use Rattle.base.proofs.Places.{one-true, times-same, stands, place-stands}
 use Rattle.base.proofs.Keeping.{keep-split, keep-times, keep-passes, index-is, times-has, has-no}
 use Rattle.base.proofs.Joined.{keyed-once}
