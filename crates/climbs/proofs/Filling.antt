@@ -1,29 +1,29 @@
--- Filling LADPOS and LADDERS along the preorder: how the ladders' words run on, and which words there are to write. Assumes nothing.
+-- Which words fill LADDERS: each is an entry's own or above a path top. Assumes nothing.
 use mathlib.Core.Path.{_≡_, refl, sym, ap, _∙_}
 use mathlib.Core.Logic.{_⊎_, inl, inr}
-use mathlib.Core.List.{List, [], _∷_, _++_, map, flatten, append-nil}
-use mathlib.Core.Bool.{true, false}
+use mathlib.Core.List.{List, _∷_, _++_, map, flatten}
+use mathlib.Core.Bool.{true}
 use mathlib.Core.Option.{some}
 use Prim.Native.Nat.{ℕ, suc, _+_, _-_, _*_, _≤_, _<_}
 use native.Mathlib.Omega.{arith}
 use native.Mathlib.Decide.{decLt}
 use lib.ListN.{length, getD, take, drop, length-append}
-use lib.Seq.{take-suc, take-all, take-at, take-add, getD-at, ext-getD}
+use lib.Seq.{take-at, getD-at, ext-getD}
 use Rattle.base.specs.Lists.{keep, padded}
 use Rattle.base.proofs.Counts.{times}
 use Rattle.base.proofs.Places.{stands, place-is}
-use Rattle.base.proofs.Keeping.{keep-append, keep-yes, keep-no}
-use Rattle.base.proofs.Joined.{join-append, join-find, padded-length, padded-in, padded-past}
+use Rattle.base.proofs.Joined.{join-find, padded-length, padded-in, padded-past}
 use Rattle.tree.specs.Parents.{topMark, up}
 use Rattle.tree.specs.Forest.{height, order, position, pathTop, pathFrom}
 use Rattle.tree.specs.Faults.{Tree}
 use Rattle.tree.proofs.Depths.{up-some}
-use Rattle.tree.proofs.Positions.{order-length, position-in, at-position}
+use Rattle.tree.proofs.Positions.{at-position}
 use Rattle.table.specs.Ladders.{ladder, pathTops, ladders, ladPos}
 use Rattle.climbs.proofs.Paths.{path-in}
 use Rattle.climbs.proofs.OwnPaths.{OnPath, topsWithin, on-path, tops-once, tops-in, tops-split}
 use Rattle.climbs.proofs.Ladders.{rise, rungsWithin, ladder-length, ladpos-on, ladpos-top, lemma-5, ladder-own}
 use Rattle.climbs.proofs.Room.{ladders-fit}
+use Rattle.climbs.proofs.Running.{rungs-grow, ladder-end}
 
 -- word j of LADDERS stands 1 or more before a path top's own word, in that top's ladder
 pub record Above (ps : List ℕ) (j : ℕ) : Type 0 where
@@ -36,57 +36,7 @@ pub record Above (ps : List ℕ) (j : ℕ) : Type 0 where
   pub at : ladPos ps top ≡ j + climbs
 
 module _ (ps : List ℕ) (small : length ps ≤ topMark) (tree : Tree ps) where
-  -- the path tops, one entry of the preorder further
-  module _ (i v : ℕ) (h : i < length ps) (at : getD (order ps) i 0 ≡ v) where
-    next : take (suc i) (order ps) ≡ take i (order ps) ++ (v ∷ [])
-    next = rw at at (take-suc (order ps) i 0 (omega (arith, order-length ps small tree)))
-
-    pub tops-more : pathTop ps v ≡ true → topsWithin ps (suc i) ≡ topsWithin ps i ++ (v ∷ [])
-    unfolding keep
-    tops-more e = ap (keep (pathTop ps)) next ∙ keep-append (pathTop ps) (take i (order ps)) (v ∷ []) ∙ ap (λ l. topsWithin ps i ++ l) (keep-yes (pathTop ps) v [] e)
-
-    pub tops-same : pathTop ps v ≡ false → topsWithin ps (suc i) ≡ topsWithin ps i
-    unfolding keep
-    tops-same e = ap (keep (pathTop ps)) next ∙ keep-append (pathTop ps) (take i (order ps)) (v ∷ []) ∙ ap (λ l. topsWithin ps i ++ l) (keep-no (pathTop ps) v [] e) ∙ append-nil (topsWithin ps i)
-
-    -- and the words of their ladders
-    pub rungs-more : pathTop ps v ≡ true → rungsWithin ps (suc i) ≡ rungsWithin ps i + (rise ps v + height ps v)
-    unfolding flatten
-    rungs-more e =
-        let a = flatten (map (ladder ps) (topsWithin ps i)) in
-        let q = ap (λ l. length (flatten (map (ladder ps) l))) (tops-more e) in
-        omega (arith, ap length (join-append (ladder ps) (topsWithin ps i) (v ∷ [])), length-append a (ladder ps v ++ []), length-append (ladder ps v) [], ladder-length ps small tree v)
-
-    pub rungs-same : pathTop ps v ≡ false → rungsWithin ps (suc i) ≡ rungsWithin ps i
-    rungs-same e = ap (λ l. length (flatten (map (ladder ps) l))) (tops-same e)
-
-  pub tops-none : topsWithin ps 0 ≡ []
-  unfolding keep
-  tops-none = refl
-
-  pub tops-all : topsWithin ps (length ps) ≡ pathTops ps
-  tops-all = ap (keep (pathTop ps)) (take-all (length ps) (order ps) (omega (arith, order-length ps small tree)))
-
-  pub rungs-none : rungsWithin ps 0 ≡ 0
-  unfolding keep flatten
-  rungs-none = refl
-
-  pub rungs-all : rungsWithin ps (length ps) ≡ length (flatten (ladders ps))
-  unfolding ladders
-  rungs-all = ap (λ l. length (flatten (map (ladder ps) l))) tops-all
-
-  pub rungs-grow : (i j : ℕ) → i ≤ j → rungsWithin ps i ≤ rungsWithin ps j
-  rungs-grow i j h =
-      let m = j - i in
-      let z : i + m ≡ j = omega arith in
-      let b = keep (pathTop ps) (take m (drop i (order ps))) in
-      let q : topsWithin ps j ≡ topsWithin ps i ++ b = ap (topsWithin ps) (sym z) ∙ ap (keep (pathTop ps)) (take-add i m (order ps)) ∙ keep-append (pathTop ps) (take i (order ps)) (take m (drop i (order ps))) in
-      omega (arith, ap (λ l. length (flatten (map (ladder ps) l))) q, ap length (join-append (ladder ps) (topsWithin ps i) b), length-append (flatten (map (ladder ps) (topsWithin ps i))) (flatten (map (ladder ps) b)))
-
-  pub rungs-fit : (i : ℕ) → i ≤ length ps → rungsWithin ps i ≤ 2 * length ps
-  rungs-fit i h = omega (arith, rungs-grow i (length ps) h, rungs-all, ladders-fit ps small tree)
-
-  -- of the ladder of a path top: where it begins, and where the next begins
+  -- the tops before a path's own top, by the path's number
   ladder-start : (t i : ℕ) → t < length ps → pathTop ps t ≡ true → i < length (pathTops ps) → getD (pathTops ps) i 0 ≡ t → take i (pathTops ps) ≡ topsWithin ps (position ps t)
   ladder-start t i h e b q =
       let a = topsWithin ps (position ps t) in
@@ -96,9 +46,6 @@ module _ (ps : List ℕ) (small : length ps ≤ topMark) (tree : Tree ps) where
       let m = place-is t (pathTops ps) i o b q in
       let n = place-is t (pathTops ps) (length a) o (omega (arith, ap length s, length-append a (t ∷ r))) (rw s (getD-at a t r 0 (length a) refl)) in
       rw s (take-at a (t ∷ r) i (sym n ∙ m))
-
-  ladder-end : (t : ℕ) → t < length ps → pathTop ps t ≡ true → rungsWithin ps (suc (position ps t)) ≡ rungsWithin ps (position ps t) + (rise ps t + height ps t)
-  ladder-end t h e = rungs-more (position ps t) t (position-in ps small tree t h) (at-position ps small tree t h) e
 
   -- a word of LADDERS is an entry's own, of one entry, or above a path top, and not both
   pub own-or-above : (j : ℕ) → j < length (flatten (ladders ps)) → ((v : ℕ) × (v < length ps) × (ladPos ps v ≡ j)) ⊎ Above ps j
@@ -140,8 +87,8 @@ module _ (ps : List ℕ) (small : length ps ≤ topMark) (tree : Tree ps) where
       own-t = ladpos-top ps small tree (a .top) (a .entry) (a .begins)
 
       apart : (o : OnPath ps v) → Dec (position ps (o .top) < position ps (a .top)) → Dec (position ps (a .top) < position ps (o .top)) → ⊥
-      apart o (yes l) r = omega (arith, own-t, a .at, a .near, o .short, ladpos-on ps small tree v o, ladder-end (o .top) (o .entry) (o .begins), rungs-grow (suc (position ps (o .top))) (position ps (a .top)) l)
-      apart o (no l) (yes r) = omega (arith, own-t, a .at, ladpos-on ps small tree v o, ladder-end (a .top) (a .entry) (a .begins), rungs-grow (suc (position ps (a .top))) (position ps (o .top)) r)
+      apart o (yes l) r = omega (arith, own-t, a .at, a .near, o .short, ladpos-on ps small tree v o, ladder-end ps small tree (o .top) (o .entry) (o .begins), rungs-grow ps small tree (suc (position ps (o .top))) (position ps (a .top)) l)
+      apart o (no l) (yes r) = omega (arith, own-t, a .at, ladpos-on ps small tree v o, ladder-end ps small tree (a .top) (a .entry) (a .begins), rungs-grow ps small tree (suc (position ps (a .top))) (position ps (o .top)) r)
       apart o (no l) (no r) =
           let p : position ps (o .top) ≡ position ps (a .top) = omega arith in
           let q : o .top ≡ a .top = sym (at-position ps small tree (o .top) (o .entry)) ∙ ap (λ i. getD (order ps) i 0) p ∙ at-position ps small tree (a .top) (a .entry) in
@@ -150,12 +97,13 @@ module _ (ps : List ℕ) (small : length ps ≤ topMark) (tree : Tree ps) where
       go : OnPath ps v → ⊥
       go o = apart o (decLt (position ps (o .top)) (position ps (a .top))) (decLt (position ps (a .top)) (position ps (o .top)))
 
-  -- so a section that has each entry at its LADPOS, the ancestors of each path top before that top, and zeros behind, is LADDERS
+  -- what stands above a path top is its ancestor, as many climbs up
   pub above-is : (j : ℕ) (a : Above ps j) (u : ℕ) → up ps (a .climbs) (a .top) ≡ some u → getD (flatten (ladders ps)) j 0 ≡ u
   above-is j a u e =
       let z : ladPos ps (a .top) - a .climbs ≡ j = omega (arith, a .at) in
       rw z at (lemma-5 ps small tree (a .top) (a .climbs) u (omega (arith, a .near)) e .1)
 
+  -- so a section that has each entry at its LADPOS, the ancestors of each path top before that top, and zeros behind, is LADDERS
   pub filled : (l : List ℕ) → length l ≡ 2 * length ps
       → ((v : ℕ) → v < length ps → getD l (ladPos ps v) 0 ≡ v)
       → ((t k u : ℕ) → t < length ps → pathTop ps t ≡ true → 1 ≤ k → k ≤ rise ps t → up ps k t ≡ some u → getD l (ladPos ps t - k) 0 ≡ u)

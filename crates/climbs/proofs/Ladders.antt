@@ -1,7 +1,7 @@
 -- LADPOS and what stands in LADDERS: 003's Lemma 5, that a ladder answers any climb of at most the entry's height. Assumes nothing.
 use mathlib.Core.Path.{_≡_, sym, ap, _∙_}
 use mathlib.Core.List.{List, [], _∷_, _++_, map, reverse, flatten, map-append}
-use mathlib.Core.Bool.{true}
+use mathlib.Core.Bool.{true, false}
 use mathlib.Core.Option.{some, Option·some-injective}
 use Prim.Native.Nat.{ℕ, zero, suc, _+_, _-_, _≤_, _<_, min}
 use native.Mathlib.Omega.{arith}
@@ -12,13 +12,13 @@ use Rattle.base.specs.Lists.{keep, place}
 use Rattle.base.proofs.Counts.{times}
 use Rattle.base.proofs.Places.{place-is}
 use Rattle.base.proofs.Joined.{reverse-at, join-split, keyed-once}
-use Rattle.tree.specs.Parents.{topMark, up, depth, climb}
+use Rattle.tree.specs.Parents.{topMark, parent, up, depth, climb}
 use Rattle.tree.specs.Forest.{height, order, position, longChild, pathTop, pathFrom}
 use Rattle.tree.specs.Faults.{Tree}
-use Rattle.tree.proofs.Climbing.{entry-in, entry-some, up-from, up-add}
+use Rattle.tree.proofs.Climbing.{entry-in, entry-some, parent-some, up-from, up-add}
 use Rattle.tree.proofs.Depths.{climb-at, up-depth, up-some}
 use Rattle.table.specs.Ladders.{nearest, ladder, ladders, ladPos}
-use Rattle.climbs.proofs.Paths.{path-length, path-up, path-depth}
+use Rattle.climbs.proofs.Paths.{path-top-no, path-length, path-up, path-depth}
 use Rattle.climbs.proofs.OwnPaths.{OnPath, topsWithin, on-own, on-down, on-path, on-ancestor, on-height, tops-split, own-number}
 
 -- how many ancestors stand in a ladder before its path
@@ -152,7 +152,14 @@ module _ (ps : List ℕ) (small : length ps ≤ topMark) (tree : Tree ps) where
       let o = on-path ps small tree v h in
       omega (arith, ladpos-on v o, ladpos-on c (on-down ps small tree v c e o))
 
-  -- v's own word, and with it Lemma 5: the word k before it is k climbs above v, up to v's height
+  pub ladpos-next : (v p : ℕ) → parent ps v ≡ some p → pathTop ps v ≡ false → ladPos ps v ≡ suc (ladPos ps p)
+  ladpos-next v p e n =
+      let (hv, hp, w) = parent-some ps v p e in
+      let (q, f, l) = path-top-no ps small tree v n hv in
+      let s : q ≡ p = Option·some-injective q p (sym f ∙ e) in
+      ladpos-down p v hp (rw s at l)
+
+  -- v's own word, and 003's Lemma 5: a node of height h has at least h ancestors in its ladder, or all. The word k before v's own is k climbs above v
   pub ladpos-in : (v : ℕ) → v < length ps → ladPos ps v < length (flatten (ladders ps))
   ladpos-in v h =
       let o = on-path ps small tree v h in

@@ -3,4 +3,5 @@ pub mod Paths
 pub mod OwnPaths
 pub mod Ladders
 pub mod Room
+pub mod Running
 pub mod Filling
