@@ -43,6 +43,7 @@ module _ (ps : List ℕ) (small : length ps ≤ topMark) (tree : Tree ps) where
     pub rungs-same : pathTop ps v ≡ false → rungsWithin ps (suc i) ≡ rungsWithin ps i
     rungs-same e = ap (λ l. length (flatten (map (ladder ps) l))) (tops-same e)
 
+  -- from none to all of them, and never more than 2n words
   pub tops-none : topsWithin ps 0 ≡ []
   unfolding keep
   tops-none = refl
