@@ -2,3 +2,5 @@
 pub mod Locality
 pub mod Bounds
 pub mod Exponent
+pub mod Answering
+pub mod Numbers

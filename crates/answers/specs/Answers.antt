@@ -5,7 +5,7 @@ use mathlib.Core.Path.{_≡_}
 use Prim.Native.Nat.{ℕ, _+_, _<_}
 use lib.ListN.{length, getD, set}
 use lib.Dec.{ltb}
-use Rattle.base.specs.Lists.{padded}
+use Rattle.base.specs.Lists.{has, padded}
 use Rattle.base.specs.Numbers.{Outcome}
 use Rattle.answers.specs.Reading.{Reading, done, read, wordAt, run, trace}
 use Rattle.answers.specs.declared.Cells.{Cells}
@@ -18,6 +18,11 @@ pickCells false a b = b
 -- the list with one cell more, where it has room
 unfoldable pub pushed : Cells → ℕ → Cells
 pushed cs cell = pickCells (ltb (cs .count) 15) (record { at = set (cs .at) (cs .count) cell; count = cs .count + 1 }) cs
+
+-- the list with more cells, one after another
+unfoldable pub pushedAll : Cells → List ℕ → Cells
+pushedAll cs [] = cs
+pushedAll cs (x ∷ xs) = pushedAll (pushed cs x) xs
 
 -- a list of cells as an answer carries it: unused places are 0
 unfoldable pub listed : List ℕ → Cells
@@ -35,3 +40,7 @@ answerFrom t cs (read cell k) = answerFrom t (pushed cs cell) (k (wordAt t cell)
 -- two tables have the same words in the cells that an answer lists
 abbrev pub SameAt : Answer → List ℕ → List ℕ → Type 0
 SameAt r t u = (i : ℕ) → i < r .cells .count → wordAt t (getD (r .cells .at) i 0) ≡ wordAt u (getD (r .cells .at) i 0)
+
+-- an answer's number is one of a list
+abbrev pub Gives : List ℕ → Answer → Type 0
+Gives ns r = has ns (r .number) ≡ true

@@ -4,12 +4,12 @@ use mathlib.Core.List.{List, [], _∷_, _++_, map}
 use mathlib.Core.Bool.{Bool, true, false, cond}
 use mathlib.Core.Option.{Option, none, some, Option·none-ne-some}
 use Prim.Native.Nat.{ℕ, zero, suc, _+_, _≤_, _<_}
-use native.Mathlib.Nat.{add-zero, zero-add, not-suc-le-zero, le-of-suc-le-suc}
+use native.Mathlib.Nat.{add-zero, zero-add, suc-add, not-suc-le-zero, le-of-suc-le-suc}
 use native.Mathlib.Omega.{arith}
 use native.Mathlib.Decide.{ℕ-discrete}
 use lib.ListN.{length, getD, getElem?}
 use borrow.Author.Tests.{eq-eqb, ne-eqb}
-use Rattle.base.specs.Lists.{each, below, first, places}
+use Rattle.base.specs.Lists.{each, below, first, index, places}
 
 -- no truth value is both
 pub clash : {A : Type 0} → _≡_ {A = Bool} false true → A
@@ -30,6 +30,12 @@ pub at-some : (l : List ℕ) (i x : ℕ) → getElem? l i ≡ some x → (i < le
 at-some [] i x e = absurd (let z : _≡_ {A = ℕ} 0 1 = cc in omega arith)
 at-some (y ∷ l) zero x e = (omega arith, cc)
 at-some (y ∷ l) (suc i) x e = let r = at-some l i x e in (omega (arith, r .0), r .1)
+
+-- within a list the default does not matter
+pub at-any {ℓ} : {A : Type ℓ} (l : List A) (i : ℕ) (a b : A) → i < length l → getD l i a ≡ getD l i b
+at-any [] i a b h = absurd (not-suc-le-zero h)
+at-any (x ∷ l) zero a b h = refl
+at-any (x ∷ l) (suc i) a b h = at-any l i a b (le-of-suc-le-suc h)
 
 -- the first number of a row that passes a test: where there is none, all fail
 module _ (test : ℕ → Bool) where
@@ -129,8 +135,43 @@ module _ {ℓ} {A : Type ℓ} (P : A → Type 0) where
   all-map Q f g [] h = tt
   all-map Q f g (x ∷ l) h = (g x (h .0), all-map Q f g l (h .1))
 
--- within a list the default does not matter
-pub at-any {ℓ} : {A : Type ℓ} (l : List A) (i : ℕ) (a b : A) → i < length l → getD l i a ≡ getD l i b
-at-any [] i a b h = absurd (not-suc-le-zero h)
-at-any (x ∷ l) zero a b h = refl
-at-any (x ∷ l) (suc i) a b h = at-any l i a b (le-of-suc-le-suc h)
+  -- it holds of every one, where it holds of all there are
+  pub all-always : ((x : A) → P x) → (l : List A) → All P l
+  all-always g [] = tt
+  all-always g (x ∷ l) = (g x, all-always g l)
+
+-- the place of the first of a list that passes a test
+module _ {ℓ} {A : Type ℓ} (test : A → Bool) where
+  -- behind a list whose every one fails
+  pub index-past : (l m : List A) → All (λ x. test x ≡ false) l → index test (l ++ m) ≡ length l + index test m
+  unfolding index
+  index-past [] m h = sym (zero-add (index test m))
+  index-past (x ∷ l) m h = rw (h .0, index-past l m (h .1), suc-add)
+
+  -- within the first of two lists
+  pub index-front : (l m : List A) → index test l < length l → index test (l ++ m) ≡ index test l
+  unfolding index
+  index-front [] m h = absurd (not-suc-le-zero h)
+  index-front (x ∷ l) m h = go (test x) h (index-front l m)
+    where
+      go : (t : Bool) → cond t 0 (suc (index test l)) < suc (length l) → (index test l < length l → index test (l ++ m) ≡ index test l)
+          → cond t 0 (suc (index test (l ++ m))) ≡ cond t 0 (suc (index test l))
+      go true h ih = refl
+      go false h ih = ap suc (ih (le-of-suc-le-suc h))
+
+  -- what stands there passes
+  pub index-at : (l : List A) → index test l < length l → (x : A) × (getElem? l (index test l) ≡ some x) × (test x ≡ true)
+  unfolding index
+  index-at [] h = absurd (not-suc-le-zero h)
+  index-at (x ∷ l) h = go (test x) refl h (index-at l)
+    where
+      go : (t : Bool) → test x ≡ t → cond t 0 (suc (index test l)) < suc (length l) → (index test l < length l → (y : A) × (getElem? l (index test l) ≡ some y) × (test y ≡ true))
+          → (y : A) × (getElem? (x ∷ l) (cond t 0 (suc (index test l))) ≡ some y) × (test y ≡ true)
+      go true e h ih = (x, refl, e)
+      go false e h ih = ih (le-of-suc-le-suc h)
+
+  -- of a list of f x, by the test of f x
+  pub index-map {κ} : {B : Type κ} (f : B → A) (l : List B) → index test (map f l) ≡ index (λ x. test (f x)) l
+  unfolding index
+  index-map f [] = refl
+  index-map f (x ∷ l) = rw (index-map f l)

@@ -1,4 +1,7 @@
--- Laws of the shape table.
+-- Laws of the shape table, and of the number of a group's shape.
 pub mod Sizes
 pub mod Rule
 pub mod Heights
+pub mod Turns
+pub mod Rank
+pub mod Ranking

@@ -12,7 +12,7 @@ use Rattle.shapes.specs.Walks.{down, up, Walk, after, walks, shapes}
 use Rattle.shapes.specs.Climbs.{parents, parentList, reached}
 
 -- a walk has o downs: wherever it starts it gives o local numbers
-abbrev Downs : ℕ → Walk → Type 0
+abbrev pub Downs : ℕ → Walk → Type 0
 Downs o w = (path : List ℕ) (m : ℕ) → length (parents w path m) ≡ o
 
 -- a walk of ups has no down
@@ -37,16 +37,16 @@ after-downs fewer o h (suc c) =
     (no-more (suc o) (after fewer c) (after-downs fewer o h c))
 
 -- the walks with o downs to come have o downs
-walks-downs : (o c : ℕ) → All (Downs o) (walks o c)
+pub walks-downs : (o c : ℕ) → All (Downs o) (walks o c)
 walks-downs zero c = (ups c, tt)
 walks-downs (suc o) c = after-downs (walks o) o (walks-downs o) c
 
 -- a shape has at most M local numbers
-abbrev Fits : ℕ → Walk → Type 0
+abbrev pub Fits : ℕ → Walk → Type 0
 Fits M w = length (parentList w) ≤ M
 
 -- the shapes of up to L entries have at most L local numbers
-shapes-fit : (M L : ℕ) → L ≤ M → All (Fits M) (shapes L)
+pub shapes-fit : (M L : ℕ) → L ≤ M → All (Fits M) (shapes L)
 unfolding parentList
 shapes-fit M zero h = tt
 shapes-fit M (suc L) h =

@@ -1,3 +1,4 @@
--- The shapes of groups and the table of their climbs.
+-- The shapes of groups, the table of their climbs, and the number of a shape by the depths of a group.
 pub mod Walks
 pub mod Climbs
+pub mod Numbered

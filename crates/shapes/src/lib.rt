@@ -1,4 +1,7 @@
-// The shape table.
+// The shape table, and the number of a group's shape.
+mod numbering;
+
+pub use numbering::number;
 ghost use mathlib.Core.Path.{_≡_};
 ghost use Rattle.base.specs.Limits.{groupLimit};
 ghost use Rattle.shapes.specs.Climbs.{rowsOf, Rule};

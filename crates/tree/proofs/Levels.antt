@@ -9,17 +9,13 @@ use lib.ListN.{length, length-append}
 use Rattle.base.proofs.Counts.{times}
 use Rattle.base.proofs.Places.{times-same}
 use Rattle.tree.specs.Parents.{topMark, depth, children}
-use Rattle.tree.specs.Forest.{Forest, empty, node, plant, grow, preorder, forestSize, under, whole, order}
+use Rattle.tree.specs.Forest.{Forest, empty, node, plant, grow, preorder, levels, forestSize, under, whole, order}
 use Rattle.tree.specs.Faults.{meetsTop}
 use Rattle.tree.proofs.Climbing.{parent-in, parent-none}
 use Rattle.tree.proofs.Depths.{meets-depth, end-depth}
 use Rattle.tree.proofs.Forests.{child-of, top-meets, child-meets, meets-entry}
 
--- the depths, in preorder, of a forest whose first level has depth d
-unfoldable pub levels : ℕ → Forest → List ℕ
-levels d empty = []
-levels d (node v b later) = d ∷ (levels (suc d) b ++ levels d later)
-
+-- an entry, a depth
 pub levels-length : (d : ℕ) (f : Forest) → length (levels d f) ≡ forestSize f
 unfolding levels forestSize
 levels-length d empty = refl

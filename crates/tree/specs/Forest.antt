@@ -28,6 +28,11 @@ unfoldable pub preorder : Forest → List ℕ
 preorder empty = []
 preorder (node v b later) = v ∷ (preorder b ++ preorder later)
 
+-- the depths in preorder, of a forest whose first level has depth d
+unfoldable pub levels : ℕ → Forest → List ℕ
+levels d empty = []
+levels d (node v b later) = d ∷ (levels (suc d) b ++ levels d later)
+
 -- how many entries; how many levels
 unfoldable pub forestSize : Forest → ℕ
 forestSize empty = 0

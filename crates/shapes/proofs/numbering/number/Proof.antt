@@ -1,0 +1,61 @@
+-- `shapes::numbering::number` meets its contract: what it hands on is the group's part of the depths. Assumes nothing.
+use mathlib.Core.Path.{_≡_}
+use mathlib.Core.Logic.{⊎-elim}
+use Prim.Native.Nat.{suc, _+_, _-_, _≤_}
+use native.Mathlib.Omega.{arith}
+use borrow.Author.Needs.{needs}
+use borrow.Author.Tests.{ltb-false, ltb-true}
+use lib.ListN.{length, length-take, length-drop}
+use Rattle.tree.specs.Forest.{forestSize}
+use Rattle.shapes.proofs.Ranking.{part-levels, part-fits}
+use Rattle.shapes.proofs.numbering.number.Statement.{statement}
+use Rattle.shapes.proofs.numbering.number.Tie as tie
+
+sub-if4 : tie.Need-sub-if4
+sub-if4 c = search needs
+
+-- a group's depths pass each test
+returns : tie.Need-returns
+returns c =
+    let a = c .before .before .args in (
+      (λ f d rest e n b.
+          let h : a .from + suc (forestSize f) ≤ length (a .depths .now) = part-fits (a .depths .now) (a .from) f d rest e in
+          absurd
+          (⊎-elim
+          (λ w. omega arith)
+          (⊎-elim (λ w. omega (arith, ltb-true)) (⊎-elim (λ w. omega (arith, ltb-true)) (λ w. omega (arith, ltb-true))))
+          (c .if1 .came))),
+      omega arith,
+    )
+
+-- what the tests leave is a part of the depths, which is the group's
+add-end : tie.Need-add-end
+add-end c = omega (arith, ltb-false)
+
+mul-ranked : tie.Need-mul-ranked
+mul-ranked c = omega (arith, ltb-false)
+
+sub-ranked : tie.Need-sub-ranked
+sub-ranked c = search needs
+
+part-ranked-start : tie.Need-part-ranked-start
+part-ranked-start c = search needs
+
+part-ranked-end : tie.Need-part-ranked-end
+part-ranked-end c = omega (arith, ltb-false)
+
+ranked-requires : tie.Need-ranked-requires
+ranked-requires c κs = simp (length-take, length-drop) (omega (arith, ltb-false))
+
+returns-2 : tie.Need-returns-2
+returns-2 c =
+    let a = c .before .before .before .before .before .before .before .args in (
+      (λ f d rest e n b.
+          let k : a .from + a .entries - a .from ≡ suc (forestSize f) = omega arith in
+          c .ranked .ensures .is f d (rw k (part-levels (a .depths .now) (a .from) f d rest e))),
+      c .ranked .ensures .small,
+    )
+
+pub number-spec : {M : Type 1} → statement M
+number-spec =
+    tie.close (tie.spec sub-if4 returns add-end mul-ranked sub-ranked part-ranked-start part-ranked-end ranked-requires returns-2)
