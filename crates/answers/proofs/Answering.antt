@@ -5,25 +5,26 @@ use mathlib.Core.List.{List, [], _∷_, _++_, append-assoc, append-nil}
 use Prim.Native.Nat.{ℕ, zero, suc, _+_, _-_, _≤_, _<_}
 use native.Mathlib.Nat.{zero-lt-suc, suc-le-suc-iff}
 use native.Mathlib.Omega.{arith}
-use lib.ListN.{length, getD, set, replicate, length-append, List·getD-append}
-use lib.Seq.{set-append-seam}
+use native.Mathlib.Numerals.{add-one}
+use lib.ListN.{length, getD, take, set, replicate, length-append, List·getD-append}
+use lib.Seq.{set-append-seam, take-suc, take-at}
 use borrow.Author.Tests.{lt-ltb}
 use Rattle.base.specs.Lists.{padded}
 use Rattle.base.specs.Numbers.{Outcome}
-use Rattle.answers.specs.Reading.{Reading, done, read, wordAt, run, trace, Within, Agree}
-use Rattle.answers.specs.Answers.{pushed, listed, answerTo, answerFrom, SameAt}
+use Rattle.answers.specs.Reading.{Reading, done, read, andThen, wordAt, run, trace, Within, Agree}
+use Rattle.answers.specs.Answers.{pushed, pushedAll, listed, answerTo, answerFrom, SameAt}
 use Rattle.answers.specs.declared.Cells.{Cells}
 use Rattle.answers.proofs.Locality.{local-run, local-trace, within-trace}
 
--- a list of cells with more behind it
-unfoldable pub pushedAll : Cells → List ℕ → Cells
-pushedAll cs [] = cs
-pushedAll cs (x ∷ xs) = pushedAll (pushed cs x) xs
-
+-- cells pushed in two parts
 pub push-all-append : (cs : Cells) (xs ys : List ℕ) → pushedAll cs (xs ++ ys) ≡ pushedAll (pushedAll cs xs) ys
 unfolding pushedAll
 push-all-append cs [] ys = refl
 push-all-append cs (x ∷ xs) ys = push-all-append (pushed cs x) xs ys
+
+pub push-next : (cs : Cells) (at : List ℕ) (i : ℕ) → i < length at → pushedAll cs (take (i + 1) at) ≡ pushed (pushedAll cs (take i at)) (getD at i 0)
+unfolding pushedAll
+push-next cs at i h = rw (add-one, take-suc at i 0 h) (push-all-append cs (take i at) (getD at i 0 ∷ []))
 
 -- what is left of a program adds its cells, and ends with its outcome
 pub from-is : (t : List ℕ) (cs : Cells) (p : Reading) → answerFrom t cs p ≡ record { number = run t p .number; word = run t p .word; cells = pushedAll cs (trace t p) }
@@ -75,3 +76,14 @@ module _ (t : List ℕ) (b : ℕ) (p : Reading) (i : Within b p) where
   locality u e =
       let same = agree t u (trace t p) (λ j h. (rw (listed-at (trace t p) j h) at (e j h))) in
       rw (local-run t u p same, local-trace t u p same)
+
+-- the cells that an answer carries are those that its program read
+pub cells-listed : (t : List ℕ) (p : Reading) → take (answerTo t p .cells .count) (answerTo t p .cells .at) ≡ trace t p
+unfolding answerTo listed padded
+cells-listed t p = take-at (trace t p) (replicate (15 - length (trace t p)) 0) (length (trace t p)) refl
+
+-- a program, and then what is made of its outcome
+pub then-is : (t : List ℕ) (cs : Cells) (p : Reading) (f : Outcome → Reading) → answerFrom t cs (andThen p f) ≡ answerFrom t (pushedAll cs (trace t p)) (f (run t p))
+unfolding andThen answerFrom run trace pushedAll
+then-is t cs (done o) f = refl
+then-is t cs (read cell k) f = then-is t (pushed cs cell) (k (wordAt t cell)) f

@@ -19,6 +19,11 @@ pickCells false a b = b
 unfoldable pub pushed : Cells → ℕ → Cells
 pushed cs cell = pickCells (ltb (cs .count) 15) (record { at = set (cs .at) (cs .count) cell; count = cs .count + 1 }) cs
 
+-- the list with more cells, one after another
+unfoldable pub pushedAll : Cells → List ℕ → Cells
+pushedAll cs [] = cs
+pushedAll cs (x ∷ xs) = pushedAll (pushed cs x) xs
+
 -- a list of cells as an answer carries it: unused places are 0
 unfoldable pub listed : List ℕ → Cells
 listed xs = record { at = padded 15 xs; count = length xs }

@@ -1,13 +1,13 @@
--- Lists laid end to end, and a list from its end: what stands where, and how often. Assumes nothing.
+-- Lists laid end to end, a list from its end, a list with zeros behind it: what stands where, and how often. Assumes nothing.
 use mathlib.Core.Path.{_≡_, refl, sym, ap, _∙_}
 use mathlib.Core.List.{List, [], _∷_, _++_, map, flatten, reverse, reverse-cons, append-assoc, map-append}
 use Prim.Native.Nat.{ℕ, zero, suc, _+_, _-_, _≤_, _<_}
 use native.Mathlib.Omega.{arith}
 use native.Mathlib.Nat.{not-suc-le-zero, le-of-suc-le-suc}
 use native.Mathlib.Decide.{ℕ-discrete, decLt, decLe}
-use lib.ListN.{length, getD, take, length-append, length-reverse, List·getD-append}
-use lib.Seq.{getD-at}
-use Rattle.base.specs.Lists.{place}
+use lib.ListN.{length, getD, take, replicate, length-append, length-replicate, length-reverse, List·getD-append}
+use lib.Seq.{getD-at, getD-append-add}
+use Rattle.base.specs.Lists.{place, padded}
 use Rattle.base.proofs.Counts.{times, times-append}
 use Rattle.base.proofs.Places.{times-same, times-other, place-stands}
 
@@ -85,3 +85,23 @@ keyed-once key a (y ∷ l) h x = go (ℕ-discrete x y) (decLe 1 (times x l)) (ke
     go (yes e) (yes d) ih =
         let (b, q) = place-stands x l d in
         absurd (omega (arith, h (suc (place x l)) (omega arith), h 0 (omega arith), ap key q, ap key e))
+
+-- a list with zeros behind it
+zeros : (m i : ℕ) → getD (replicate {A = ℕ} m 0) i 0 ≡ 0
+zeros zero i = refl
+zeros (suc m) zero = refl
+zeros (suc m) (suc i) = zeros m i
+
+pub padded-length : (n : ℕ) (l : List ℕ) → length l ≤ n → length (padded n l) ≡ n
+unfolding padded
+padded-length n l h = omega (arith, length-append l (replicate (n - length l) 0), length-replicate {A = ℕ} (n - length l) 0)
+
+pub padded-in : (n : ℕ) (l : List ℕ) (i : ℕ) → i < length l → getD (padded n l) i 0 ≡ getD l i 0
+unfolding padded
+padded-in n l i h = List·getD-append l (replicate (n - length l) 0) 0 i h
+
+pub padded-past : (n : ℕ) (l : List ℕ) (i : ℕ) → length l ≤ i → getD (padded n l) i 0 ≡ 0
+unfolding padded
+padded-past n l i h =
+    let z : length l + (i - length l) ≡ i = omega arith in
+    (rw z at (getD-append-add l (replicate (n - length l) 0) (i - length l) 0)) ∙ zeros (n - length l) (i - length l)

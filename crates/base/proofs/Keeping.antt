@@ -4,13 +4,14 @@ use mathlib.Core.List.{List, [], _∷_, _++_}
 use mathlib.Core.Bool.{Bool, true, false, cond}
 use Prim.Native.Nat.{ℕ, suc, _+_, _≤_, _<_}
 use native.Mathlib.Omega.{arith}
+use native.Mathlib.Nat.{add-zero}
 use native.Mathlib.Decide.{ℕ-discrete}
 use lib.ListN.{length, getD, take, drop}
 use lib.Seq.{split-at}
 use lib.Dec.{eqb}
 use borrow.Author.Tests.{eqb-true, ne-eqb}
 use Rattle.base.specs.Lists.{keep, index, every, some?, has}
-use Rattle.base.proofs.Lists.{clash}
+use Rattle.base.proofs.Lists.{clash, All, index-past}
 use Rattle.base.proofs.Counts.{one, times}
 use Rattle.base.proofs.Places.{times-same, times-other}
 
@@ -47,6 +48,12 @@ module _ {ℓ} {A : Type ℓ} (test : A → Bool) where
       go : (t : Bool) → length (keep test l) ≤ length l → length (cond t (x ∷ keep test l) (keep test l)) ≤ suc (length l)
       go true h = omega arith
       go false h = omega arith
+
+-- what holds of all that stand in a list holds of every one of it
+pub times-all : (P : ℕ → Type 0) (l : List ℕ) → ((x : ℕ) → 1 ≤ times x l → P x) → All P l
+unfolding times
+times-all P [] h = tt
+times-all P (x ∷ l) h = (h x (omega (arith, times-same x x l refl)), times-all P l (λ y k. h y (omega arith)))
 
 module _ (test : ℕ → Bool) where
   -- what passes is kept as often as it stands, and nothing else is
@@ -100,9 +107,8 @@ module _ (test : ℕ → Bool) where
 
   -- the first that passes, behind those that fail
   pub index-is : (a : List ℕ) (x : ℕ) (b : List ℕ) → ((y : ℕ) → 1 ≤ times y a → test y ≡ false) → test x ≡ true → index test (a ++ (x ∷ b)) ≡ length a
-  unfolding index times
-  index-is [] x b h e = rw e
-  index-is (y ∷ a) x b h e = rw (h y (omega (arith, times-same y y a refl))) (ap suc (index-is a x b (λ z k. h z (omega arith)) e))
+  unfolding index
+  index-is a x b h e = index-past test a (x ∷ b) (times-all (λ y. test y ≡ false) a h) ∙ rw e (add-zero (length a))
 
 -- a list has x just where x stands in it
 pub has-times : (l : List ℕ) (x : ℕ) → has l x ≡ true → 1 ≤ times x l
@@ -129,3 +135,6 @@ has-not l x n = go (has l x) refl
     go : (b : Bool) → has l x ≡ b → b ≡ false
     go true e = absurd (n (has-times l x e))
     go false e = refl
+
+pub has-no : (l : List ℕ) (x : ℕ) → times x l ≡ 0 → has l x ≡ false
+has-no l x h = has-not l x (λ k. omega arith)

@@ -5,3 +5,7 @@ pub mod Jumps
 pub mod Groups
 pub mod Words
 pub mod Microtrees
+pub mod Ladders
+pub mod Room
+pub mod Running
+pub mod Filling

@@ -5,13 +5,15 @@ use mathlib.Core.Bool.{Bool, true, false}
 use mathlib.Core.Option.{some, Option·some-injective}
 use Prim.Native.Nat.{ℕ, zero, suc, _+_, _≤_, _<_}
 use native.Mathlib.Omega.{arith}
+use native.Mathlib.Decide.{decLe}
 use lib.ListN.{length, getD, take, drop, length-append}
 use lib.Seq.{getD-at}
 use Rattle.base.specs.Lists.{keep, index, place, has}
 use Rattle.base.proofs.Lists.{clash}
-use Rattle.base.proofs.Counts.{one, times, times-append}
+use Rattle.base.proofs.Counts.{times, times-append}
 use Rattle.base.proofs.Places.{one-true, times-same, stands, place-stands}
-use Rattle.base.proofs.Keeping.{keep-split, keep-most, keep-times, keep-passes, index-is, has-times, times-has}
+use Rattle.base.proofs.Keeping.{keep-split, keep-times, keep-passes, index-is, times-has, has-no}
+use Rattle.base.proofs.Joined.{keyed-once}
 use Rattle.tree.specs.Parents.{topMark, parent, up, depth}
 use Rattle.tree.specs.Forest.{height, order, position, longChild, pathTop, pathFrom}
 use Rattle.tree.specs.Level.{Ancestor}
@@ -21,7 +23,7 @@ use Rattle.tree.proofs.Depths.{depth-parent}
 use Rattle.tree.proofs.Forests.{meets-entry, order-once}
 use Rattle.tree.proofs.Positions.{order-length, entry-once, position-in, at-position}
 use Rattle.table.specs.Ladders.{pathTops, ownPath}
-use Rattle.climbs.proofs.Paths.{long-child, path-top-no, path-length, path-next, path-in, path-parent, path-no-top, path-reach}
+use Rattle.climbs.proofs.Paths.{long-child, path-top-no, path-length, path-next, path-in, path-parent, path-no-top, path-reach, path-depth}
 
 -- v stands `steps` below the top of a long path
 pub record OnPath (ps : List ℕ) (v : ℕ) : Type 0 where
@@ -95,21 +97,22 @@ module _ (ps : List ℕ) (small : length ps ≤ topMark) (tree : Tree ps) where
   pub one-path : (v : ℕ) (a b : OnPath ps v) → a .top ≡ b .top
   one-path v a b = same-top (a .steps) (b .steps) (a .top) (b .top) (a .entry) (b .entry) (a .begins) (b .begins) (a .short) (b .short) (a .is ∙ sym (b .is))
 
-  -- v is on the path just where the path has v
-  pub on-has : (v : ℕ) (o : OnPath ps v) → has (pathFrom ps (o .top)) v ≡ true
-  on-has v o = times-has (pathFrom ps (o .top)) v (stands v (pathFrom ps (o .top)) (o .steps) (omega (arith, path-length ps small tree (o .top), o .short)) (o .is))
+  -- v is on its own path alone
+  stands-on : (v : ℕ) (o : OnPath ps v) → 1 ≤ times v (pathFrom ps (o .top))
+  stands-on v o = stands v (pathFrom ps (o .top)) (o .steps) (omega (arith, path-length ps small tree (o .top), o .short)) (o .is)
 
-  abbrev has-on : (v t : ℕ) → t < length ps → pathTop ps t ≡ true → has (pathFrom ps t) v ≡ true → OnPath ps v
-  has-on v t h b e =
-      let (k, q) = place-stands v (pathFrom ps t) (has-times (pathFrom ps t) v e) in
-      record { top = t; steps = place v (pathFrom ps t); entry = h; begins = b; short = omega (arith, path-length ps small tree t); is = q }
+  pub own-once : (v : ℕ) (o : OnPath ps v) → times v (pathFrom ps (o .top)) ≡ 1
+  own-once v o = omega (arith, stands-on v o, keyed-once (depth ps) (depth ps (o .top)) (pathFrom ps (o .top)) (λ i b. path-depth ps small tree (o .top) i (o .entry) (omega (arith, path-length ps small tree (o .top)))) v)
 
-  pub off-path : (v t : ℕ) (o : OnPath ps v) → t < length ps → pathTop ps t ≡ true → (t ≡ o .top → ⊥) → has (pathFrom ps t) v ≡ false
-  off-path v t o h b n = go (has (pathFrom ps t) v) refl
+  pub off-path : (v t : ℕ) (o : OnPath ps v) → t < length ps → pathTop ps t ≡ true → (t ≡ o .top → ⊥) → times v (pathFrom ps t) ≡ 0
+  off-path v t o h b n = go (decLe 1 (times v (pathFrom ps t)))
     where
-      go : (x : Bool) → has (pathFrom ps t) v ≡ x → x ≡ false
-      go true e = absurd (n (one-path v (has-on v t h b e) o))
-      go false e = refl
+      go : Dec (1 ≤ times v (pathFrom ps t)) → times v (pathFrom ps t) ≡ 0
+      go (no k) = omega arith
+      go (yes k) =
+          let (l, q) = place-stands v (pathFrom ps t) k in
+          let m : place v (pathFrom ps t) < height ps t = omega (arith, path-length ps small tree t) in
+          absurd (n (same-top (place v (pathFrom ps t)) (o .steps) t (o .top) h (o .entry) b (o .begins) m (o .short) (q ∙ sym (o .is))))
 
   -- the path tops are entries, and each is listed once
   pub tops-once : (t : ℕ) → t < length ps → pathTop ps t ≡ true → times t (pathTops ps) ≡ 1
@@ -119,9 +122,6 @@ module _ (ps : List ℕ) (small : length ps ≤ topMark) (tree : Tree ps) where
   tops-in t k =
       let e = keep-passes (pathTop ps) t (order ps) k in
       (meets-entry ps small t (one-true (meetsTop ps t) (omega (arith, keep-times (pathTop ps) t (order ps) e, order-once ps small t))), e)
-
-  pub paths-few : length (pathTops ps) ≤ length ps
-  paths-few = omega (arith, keep-most (pathTop ps) (order ps), order-length ps small tree)
 
   -- a path's number is how many tops stand before its own
   pub tops-split : (t : ℕ) → t < length ps → pathTop ps t ≡ true → pathTops ps ≡ topsWithin ps (position ps t) ++ (t ∷ keep (pathTop ps) (drop (suc (position ps t)) (order ps)))
@@ -143,8 +143,8 @@ module _ (ps : List ℕ) (small : length ps ≤ topMark) (tree : Tree ps) where
       let t = o .top in
       ap (index (λ s. has (pathFrom ps s) v)) (tops-split t (o .entry) (o .begins))
       ∙ index-is (λ s. has (pathFrom ps s) v) (topsWithin ps (position ps t)) t (keep (pathTop ps) (drop (suc (position ps t)) (order ps)))
-      (λ s k. let (hs, es, n) = earlier-top t s (o .entry) (o .begins) k in off-path v s o hs es n)
-      (on-has v o)
+      (λ s k. let (hs, es, n) = earlier-top t s (o .entry) (o .begins) k in has-no (pathFrom ps s) v (off-path v s o hs es n))
+      (times-has (pathFrom ps t) v (stands-on v o))
 
   pub own-path : (v : ℕ) → v < length ps
       → (t : ℕ) × (t < length ps) × (pathTop ps t ≡ true) × Ancestor ps t v × (has (pathFrom ps t) v ≡ true) × (ownPath ps v < length (pathTops ps)) × (getD (pathTops ps) (ownPath ps v) 0 ≡ t)
@@ -158,7 +158,7 @@ module _ (ps : List ℕ) (small : length ps ≤ topMark) (tree : Tree ps) where
         o .entry,
         o .begins,
         record { climbs = o .steps; reached = on-ancestor v o },
-        on-has v o,
+        times-has (pathFrom ps t) v (stands-on v o),
         omega (arith, own-number v o, ap length q, length-append a (t ∷ b)),
         rw (own-number v o, q) (getD-at a t b 0 (length a) refl),
       )

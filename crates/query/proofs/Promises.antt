@@ -1,0 +1,29 @@
+-- What every question promises of its answer: the definition's, its numbers, few cells, locality. Assumes nothing.
+use mathlib.Core.Path.{_≡_, sym, ap, _∙_}
+use mathlib.Core.List.{List, []}
+use Prim.Native.Nat.{ℕ, _≤_}
+use lib.ListN.{length}
+use Rattle.answers.specs.Reading.{Reading, Within}
+use Rattle.answers.specs.Answers.{listed, answerTo, answerFrom, SameAt, Gives}
+use Rattle.answers.specs.declared.Answer.{Answer}
+use Rattle.answers.proofs.Answering.{whole, few, locality}
+use Rattle.answers.proofs.Numbers.{Ends, ends-run}
+
+-- p is the question's program, for a table's length
+module _ (t : List ℕ) (p : ℕ → Reading) (b : ℕ) (ns : List ℕ) (r : Answer) (w : (len : ℕ) → Within b (p len)) (n : (len : ℕ) → Ends ns (p len)) where
+  abbrev pub Promised : Type 0
+  Promised = (r ≡ answerTo t (p (length t))) × (Gives ns r × ((r .cells .count ≤ b) × ((u : List ℕ) → length u ≡ length t → SameAt r t u → answerTo u (p (length u)) ≡ r)))
+
+  pub promised : b ≤ 15 → r ≡ answerFrom t (listed []) (p (length t)) → Promised
+  unfolding answerTo
+  promised h e =
+      let q : r ≡ answerTo t (p (length t)) = e ∙ whole t b (p (length t)) (w (length t)) h in (
+        q,
+        (
+          rw q (ends-run ns t (p (length t)) (n (length t))),
+          (
+            rw q (few t b (p (length t)) (w (length t))),
+            λ u l s. rw l (locality t b (p (length t)) (w (length t)) u (rw q at s)) ∙ sym q,
+          ),
+        ),
+      )

@@ -1,0 +1,17 @@
+-- `climb` meets its contract. Assumes nothing.
+use lib.Dec.{lit≤}
+use borrow.Author.Needs.{needs}
+use Rattle.answers.specs.Steps.{climbing}
+use Rattle.answers.proofs.Bounds.{climbing-within}
+use Rattle.answers.proofs.Numbers.{climbing-numbers}
+use Rattle.query.proofs.Promises.{promised}
+use Rattle.query.proofs.climb.Statement.{statement}
+use Rattle.query.proofs.climb.Tie as tie
+
+pub climb-spec : {M : Type 1} → statement M
+unfolding climbing
+climb-spec =
+    tie.close
+    (tie.spec
+    (λ c κs. search needs)
+    (λ c. let args = c .before .before .args in promised _ (λ len. climbing len (args .v .0) (args .k)) _ _ _ (λ len. climbing-within len _ _) (λ len. climbing-numbers len _ _) (lit≤ tt) (c .look .ensures)))

@@ -1,0 +1,23 @@
+-- `group::from_group` meets its contract. Assumes nothing.
+use borrow.Author.Needs.{needs}
+use Rattle.answers.specs.Steps.{fromGroup}
+use Rattle.query.proofs.Walking.{routes}
+use Rattle.query.proofs.group.from_group.Statement.{statement}
+use Rattle.query.proofs.group.from_group.Tie as tie
+
+pub from-group-spec : {M : Type 1} → statement M
+unfolding fromGroup
+from-group-spec =
+    tie.close
+    (tie.spec
+    (λ c κs. search needs)
+    (λ c κs. search needs)
+    (λ c. search routes)
+    (λ c. search needs)
+    (λ c. search needs)
+    (λ c. search needs)
+    (λ c. search needs)
+    (λ c. search needs)
+    (λ c κs. search needs)
+    (λ c κs. search needs)
+    (λ c. search routes))

@@ -1,0 +1,24 @@
+-- `jump::leaped` meets its contract. Assumes nothing.
+use native.Mathlib.Omega.{arith}
+use borrow.Author.Needs.{needs}
+use lib.Dec.{lit≤}
+use Rattle.answers.specs.Steps.{leaped}
+use Rattle.answers.proofs.Exponent.{exponent-low, exponent-zero}
+use Rattle.query.proofs.Walking.{steps}
+use Rattle.query.proofs.jump.leaped.Statement.{statement}
+use Rattle.query.proofs.jump.leaped.Tie as tie
+
+pub leaped-spec : {M : Type 1} → statement M
+unfolding leaped
+leaped-spec =
+    tie.close
+    (tie.spec
+    (λ c κs. search needs)
+    (λ c. search steps)
+    (λ c κs. search needs)
+    (λ c. search steps)
+    (λ c κs. search needs)
+    (λ c. search (steps, exponent-zero))
+    (λ c κs. search needs)
+    (λ c κs. let low = exponent-low 20 _ _ (lit≤ tt) (omega arith) (c .exponent .ensures) in (search needs, search needs, low .0, low .1))
+    (λ c. search steps))

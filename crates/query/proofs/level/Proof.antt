@@ -1,0 +1,17 @@
+-- `level` meets its contract. Assumes nothing.
+use lib.Dec.{lit≤}
+use borrow.Author.Needs.{needs}
+use Rattle.answers.specs.Steps.{level}
+use Rattle.answers.proofs.Bounds.{level-within}
+use Rattle.answers.proofs.Numbers.{level-numbers}
+use Rattle.query.proofs.Promises.{promised}
+use Rattle.query.proofs.level.Statement.{statement}
+use Rattle.query.proofs.level.Tie as tie
+
+pub level-spec : {M : Type 1} → statement M
+unfolding level
+level-spec =
+    tie.close
+    (tie.spec
+    (λ c κs. search needs)
+    (λ c. let args = c .before .before .args in promised _ (λ len. level len (args .v .0) (args .d)) _ _ _ (λ len. level-within len _ _) (λ len. level-numbers len _ _) (lit≤ tt) (c .look .ensures)))

@@ -1,0 +1,20 @@
+-- `look::counted` meets its contract. Assumes nothing.
+use borrow.Author.Needs.{needs}
+use borrow.Author.Tests.{lt-ltb, le-ltb}
+use Rattle.query.specs.Parts.{countFrom}
+use Rattle.query.proofs.look.counted.Statement.{statement}
+use Rattle.query.proofs.look.counted.Tie as tie
+
+pub counted-spec : {M : Type 1} → statement M
+unfolding countFrom
+counted-spec =
+    tie.close
+    (tie.spec
+    (λ c. simp (lt-ltb _ _ (c .if1 .taken)))
+    (λ c. search needs)
+    (λ c. search needs)
+    (λ c. search needs)
+    (λ c. search needs)
+    (λ c. search needs)
+    (λ c. simp (le-ltb _ _ (c .before .if1 .left), lt-ltb _ _ (c .if2 .taken)))
+    (λ c. simp (le-ltb _ _ (c .before .if1 .left), le-ltb _ _ (c .if2 .left))))

@@ -1,0 +1,18 @@
+-- `look::descended` meets its contract. Assumes nothing.
+use borrow.Author.Needs.{needs}
+use Rattle.answers.specs.Steps.{descended}
+use Rattle.query.proofs.Walking.{steps}
+use Rattle.query.proofs.look.descended.Statement.{statement}
+use Rattle.query.proofs.look.descended.Tie as tie
+
+pub descended-spec : {M : Type 1} → statement M
+unfolding descended
+descended-spec =
+    tie.close
+    (tie.spec
+    (λ c. search steps)
+    (λ c. search needs)
+    (λ c. search needs)
+    (λ c κs. search needs)
+    (λ c κs. search needs)
+    (λ c. search steps))

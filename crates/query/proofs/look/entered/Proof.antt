@@ -1,0 +1,17 @@
+-- `look::entered` meets its contract. Assumes nothing.
+use borrow.Author.Needs.{needs}
+use Rattle.answers.specs.Steps.{entered}
+use Rattle.query.proofs.Walking.{steps}
+use Rattle.query.proofs.look.entered.Statement.{statement}
+use Rattle.query.proofs.look.entered.Tie as tie
+
+pub entered-spec : {M : Type 1} → statement M
+unfolding entered
+entered-spec =
+    tie.close
+    (tie.spec
+    (λ c. search steps)
+    (λ c. search needs)
+    (λ c κs. search needs)
+    (λ c κs. search needs)
+    (λ c. search steps))

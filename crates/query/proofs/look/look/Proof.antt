@@ -1,0 +1,21 @@
+-- `look::look` meets its contract. Assumes nothing.
+use mathlib.Core.Path.{sym, _∙_}
+use borrow.Author.Needs.{needs}
+use Rattle.answers.specs.Steps.{entered}
+use Rattle.query.proofs.Opening.{open-broken, open-next}
+use Rattle.query.proofs.look.look.Statement.{statement}
+use Rattle.query.proofs.look.look.Tie as tie
+
+pub look-spec : {M : Type 1} → statement M
+look-spec =
+    tie.close
+    (tie.spec
+    (λ c κs. search needs)
+    (λ c κs. search needs)
+    (λ c.
+    let opening = c .before .before .before .opened in
+    c .broken .ensures ∙ sym (open-broken _ (opening .result) _ (c .before .if1 .taken)) ∙ opening .ensures .goes _)
+    (λ c κs. c .before .before .opened .ensures .room (c .if1 .left))
+    (λ c.
+    let opening = c .before .before .before .opened in
+    c .entered .ensures ∙ sym (open-next _ (opening .result) (entered _ _ _) (c .before .if1 .left)) ∙ opening .ensures .goes (entered _ _ _)))

@@ -1,0 +1,18 @@
+-- `relate::related` meets its contract. Assumes nothing.
+use borrow.Author.Needs.{needs}
+use Rattle.base.proofs.Lists.{clash}
+use Rattle.answers.specs.Steps.{related}
+use Rattle.query.specs.Parts.{relatedFrom}
+use Rattle.query.proofs.Walking.{steps}
+use Rattle.query.proofs.relate.related.Statement.{statement}
+use Rattle.query.proofs.relate.related.Tie as tie
+
+pub related-spec : {M : Type 1} → statement M
+unfolding related
+related-spec =
+    tie.close
+    (tie.spec
+    (λ c. (λ e. clash e, λ above apart. unfold relatedFrom in search steps))
+    (λ c. (λ e. clash e, λ above apart. unfold relatedFrom in search steps))
+    (λ c κs. search needs)
+    (λ c. (λ e. search needs, c .compared .ensures)))

@@ -1,0 +1,2 @@
+-- What the parts of a question hand on.
+pub mod Parts

@@ -1,0 +1,98 @@
+// Branch: past the ancestry test, the level lookup of v one deeper than u, its cells listed behind those so far.
+ghost use mathlib.Core.Path.{_≡_};
+ghost use mathlib.Core.List.{[]};
+ghost use Prim.Native.Nat.{_<_, _≤_};
+ghost use lib.ListN.{length, take};
+ghost use Rattle.base.specs.Limits.{Sized};
+ghost use Rattle.answers.specs.Answers.{pushedAll, listed, answerFrom};
+ghost use Rattle.answers.specs.Steps.{branch, strictly, deeper};
+use crate::look::look;
+use crate::look::opened;
+use crate::reading::broken;
+use crate::reading::read;
+use crate::relate::related;
+use answers::Answer;
+use answers::Cells;
+use base::Node;
+
+// The cells of one list behind those of another.
+fn joined(cells: Cells, more: Cells) -> Cells
+    requires { ⌜ more .count ≤ 15 ⌝ }
+    ensures { λ r. ⌜ r ≡ pushedAll cells (take (more .count) (more .at)) ⌝ }
+{
+    let at = more.at;
+    let count = more.count;
+    let mut all = cells;
+    let mut i: u32 = 0;
+    while i < count {
+        all = all.push(at[i as usize]);
+        i += 1;
+    }
+    all
+}
+
+// An 8 of the level lookup is given as 9.
+fn deeper(table: &[u32], n: u32, v: Node, depth: u32, cells: Cells) -> Answer
+    requires { ⌜ Sized (now table) n ⌝ }
+    ensures { λ r. ⌜ r ≡ answerFrom (now (table .entry)) cells (deeper (length (now (table .entry))) (v .0) n depth) ⌝ }
+{
+    if n <= depth {
+        return broken(cells);
+    }
+    let inner = look(table, false, v, depth + 1);
+    let more = inner.cells;
+    let all = joined(cells, more);
+    if inner.number == 8 {
+        return broken(all);
+    }
+    Answer {
+        number: inner.number,
+        word: inner.word,
+        cells: all,
+    }
+}
+
+pub(crate) fn strictly(table: &[u32], n: u32, u: Node, v: Node, cells: Cells) -> Answer
+    requires { ⌜ (Sized (now table) n) × (u .0 < n) ⌝ }
+    ensures { λ r. ⌜ r ≡ answerFrom (now (table .entry)) cells (strictly (length (now (table .entry))) (u .0) (v .0) n) ⌝ }
+{
+    if u.0 == v.0 {
+        return Answer {
+            number: 10,
+            word: u.0,
+            cells,
+        };
+    }
+    let got = read(table, 4 + u.0, cells);
+    let depth = got.word;
+    let more = got.cells;
+    deeper(table, n, v, depth, more)
+}
+
+pub(crate) fn child_towards(table: &[u32], u: Node, v: Node) -> Answer
+    ensures { λ r. ⌜ r ≡ answerFrom (now (table .entry)) (listed []) (branch (length (now (table .entry))) (u .0) (v .0)) ⌝ }
+{
+    let count = opened(table);
+    let n = count.n;
+    let cells = count.cells;
+    if n == 0 {
+        return broken(cells);
+    }
+    let relation = related(table, n, u, v, cells);
+    let more = relation.cells;
+    if !relation.known {
+        return Answer {
+            number: 7,
+            word: relation.word,
+            cells: more,
+        };
+    }
+    if !relation.above {
+        return Answer {
+            number: 10,
+            word: u.0,
+            cells: more,
+        };
+    }
+    strictly(table, n, u, v, more)
+}

@@ -1,0 +1,181 @@
+// Step 3: within a group, and out of it.
+ghost use mathlib.Core.Path.{_≡_};
+ghost use mathlib.Core.List.{List};
+ghost use mathlib.Core.Bool.{Bool};
+ghost use Prim.Native.Nat.{ℕ, _<_, _≤_};
+ghost use lib.ListN.{getD};
+ghost use lib.Dec.{eqb};
+ghost use Rattle.base.specs.Limits.{Sized};
+ghost use Rattle.answers.specs.Answers.{answerFrom};
+ghost use Rattle.answers.specs.Steps.{overGroup, leftGroup, inOrder, inGroup, shaped, fromGroup};
+ghost use Rattle.query.specs.Parts.{routeFrom, routed, InGroup};
+use crate::reading::broken;
+use crate::reading::read;
+use crate::reading::settled;
+use answers::Answer;
+use answers::Cells;
+use base::Node;
+use base::Position;
+use shapes::rows;
+
+// Where step 3 has come to: an answer, or, where it is not done, the number of a jump entry to go on from.
+pub struct Route {
+    pub done: bool,
+    pub number: u32,
+    pub word: u32,
+    pub cells: Cells,
+}
+
+// An answer ends the route.
+fn ended(a: Answer) -> Route
+    ensures { λ r. ⌜ r ≡ routed a ⌝ }
+{
+    let cells = a.cells;
+    Route {
+        done: true,
+        number: a.number,
+        word: a.word,
+        cells,
+    }
+}
+
+// KIND of the group's parent, which is not micro.
+fn over_group(kind: u32, cells: Cells) -> Route
+    ensures { λ r. ⌜ ((t : List ℕ) (n d : ℕ) → routeFrom t n d r ≡ answerFrom t cells (overGroup n d kind)) ⌝ }
+{
+    if 2147483648 <= kind {
+        return ended(broken(cells));
+    }
+    Route {
+        done: false,
+        number: 0,
+        word: kind,
+        cells,
+    }
+}
+
+// The group's parent p; `here` tells whether p has the depth asked.
+fn left_group(table: &[u32], n: u32, here: bool, p: Node, cells: Cells) -> Route
+    requires { ⌜ Sized (now table) n ⌝ }
+    ensures { λ r. ⌜ ((d depth : ℕ) → here ≡ eqb depth d → routeFrom (now (table .entry)) n d r ≡ answerFrom (now (table .entry)) cells (leftGroup n d depth (p .0))) ⌝ }
+{
+    if n <= p.0 {
+        return ended(broken(cells));
+    }
+    if here {
+        return Route {
+            done: true,
+            number: 0,
+            word: p.0,
+            cells,
+        };
+    }
+    let got = read(table, 4 + n + p.0, cells);
+    let kind = got.word;
+    let more = got.cells;
+    over_group(kind, more)
+}
+
+// ORDER at the group's position plus the local number reached. The sum is tested before it is made, so that it does not wrap.
+fn in_order(table: &[u32], n: u32, local: u32, position: Position, cells: Cells) -> Answer
+    requires { ⌜ (Sized (now table) n) × (local < 256) ⌝ }
+    ensures { λ r. ⌜ r ≡ answerFrom (now (table .entry)) cells (inOrder n local (position .0)) ⌝ }
+{
+    if n <= position.0 {
+        return broken(cells);
+    }
+    let at = position.0 + local;
+    if n <= at {
+        return broken(cells);
+    }
+    let got = read(table, 4 + 3 * n + at, cells);
+    let word = got.word;
+    let more = got.cells;
+    settled(n, word, more)
+}
+
+// The local number that k climbs reach by a row of the shape table, 255 where there is none.
+fn reached(row: [u8; 5], k: u32) -> u8
+    ensures { λ r. ⌜ r ≡ getD row k 255 ⌝ }
+{
+    if k < 5 { row[k as usize] } else { 255 }
+}
+
+// Within the group where the climbs asked end there, else from the group's parent.
+fn in_group(
+    table: &[u32],
+    n: u32,
+    d: u32,
+    depth: u32,
+    group: u32,
+    shape: u32,
+    local: u32,
+    row: [u8; 5],
+    cells: Cells,
+) -> Route
+    requires { ⌜ InGroup (now table) n d depth group shape local row ⌝ }
+    ensures { λ r. ⌜ routeFrom (now (table .entry)) n d r ≡ answerFrom (now (table .entry)) cells (inGroup n d depth group local shape) ⌝ }
+{
+    let climbs = depth - d;
+    let to = reached(row, climbs);
+    if to == 255 {
+        let before = reached(row, climbs - 1);
+        let got = read(table, 4 + 8 * n + 3 * group + 2, cells);
+        let p = Node(got.word);
+        let more = got.cells;
+        return left_group(table, n, before != 255, p, more);
+    }
+    let got = read(table, 4 + 8 * n + 3 * group, cells);
+    let position = Position(got.word);
+    let more = got.cells;
+    ended(in_order(table, n, to as u32, position, more))
+}
+
+// The shape, and the local number's row in it.
+fn shaped(
+    table: &[u32],
+    n: u32,
+    d: u32,
+    depth: u32,
+    group: u32,
+    local: u32,
+    shape: u32,
+    cells: Cells,
+) -> Route
+    requires { ⌜ (Sized (now table) n) × (group < n) × (d < depth) ⌝ }
+    ensures { λ r. ⌜ routeFrom (now (table .entry)) n d r ≡ answerFrom (now (table .entry)) cells (shaped n d depth group local shape) ⌝ }
+{
+    if 23 <= shape {
+        return ended(broken(cells));
+    }
+    if 5 <= local {
+        return ended(broken(cells));
+    }
+    let all = rows(shape);
+    let row = all[local as usize];
+    if row[0] == 255 {
+        return ended(broken(cells));
+    }
+    in_group(table, n, d, depth, group, shape, local, row, cells)
+}
+
+pub(crate) fn from_group(
+    table: &[u32],
+    n: u32,
+    d: u32,
+    depth: u32,
+    group: u32,
+    local: u32,
+    cells: Cells,
+) -> Route
+    requires { ⌜ (Sized (now table) n) × (d < depth) ⌝ }
+    ensures { λ r. ⌜ routeFrom (now (table .entry)) n d r ≡ answerFrom (now (table .entry)) cells (fromGroup n d depth group local) ⌝ }
+{
+    if n <= group {
+        return ended(broken(cells));
+    }
+    let got = read(table, 4 + 8 * n + 3 * group + 1, cells);
+    let shape = got.word;
+    let more = got.cells;
+    shaped(table, n, d, depth, group, local, shape, more)
+}

@@ -1,0 +1,89 @@
+// Step 4: one jump and one ladder.
+ghost use mathlib.Core.Path.{_≡_};
+ghost use mathlib.Core.Option.{some};
+ghost use Prim.Native.Nat.{_+_, _-_, _*_, _^_, _<_, _≤_};
+ghost use Rattle.base.specs.Limits.{Sized, jumpRoom};
+ghost use Rattle.answers.specs.Answers.{answerFrom};
+ghost use Rattle.answers.specs.Steps.{exponent, ladder, landed, jumped, leaped, fromJump};
+use crate::power::exponent;
+use crate::power::power;
+use crate::reading::broken;
+use crate::reading::read;
+use crate::reading::settled;
+use answers::Answer;
+use answers::Cells;
+use base::Node;
+
+// The last read: LADDERS at the index less the climbs still missing.
+fn ladder(table: &[u32], n: u32, missing: u32, index: u32, cells: Cells) -> Answer
+    requires { ⌜ Sized (now table) n ⌝ }
+    ensures { λ r. ⌜ r ≡ answerFrom (now (table .entry)) cells (ladder n missing index) ⌝ }
+{
+    if index < missing {
+        return broken(cells);
+    }
+    let at = index - missing;
+    if 2 * n <= at {
+        return broken(cells);
+    }
+    let got = read(table, 4 + 6 * n + at, cells);
+    let word = got.word;
+    let more = got.cells;
+    settled(n, word, more)
+}
+
+// LADPOS of w.
+fn landed(table: &[u32], n: u32, missing: u32, w: Node, cells: Cells) -> Answer
+    requires { ⌜ Sized (now table) n ⌝ }
+    ensures { λ r. ⌜ r ≡ answerFrom (now (table .entry)) cells (landed n missing (w .0)) ⌝ }
+{
+    if n <= w.0 {
+        return broken(cells);
+    }
+    let got = read(table, 4 + 2 * n + w.0, cells);
+    let index = got.word;
+    let more = got.cells;
+    ladder(table, n, missing, index, more)
+}
+
+// The ancestor for e, where the jump entry is x above the answer.
+fn jumped(table: &[u32], n: u32, jump: u32, x: u32, e: u32, cells: Cells) -> Answer
+    requires { ⌜ (Sized (now table) n) × (jump < jumpRoom n) × (e < 20) × (2 ^ e ≤ x) ⌝ }
+    ensures { λ r. ⌜ r ≡ answerFrom (now (table .entry)) cells (jumped n jump x e) ⌝ }
+{
+    let got = read(table, 4 + 11 * n + 21 * jump + 1 + e, cells);
+    let w = Node(got.word);
+    let more = got.cells;
+    landed(table, n, x - power(e), w, more)
+}
+
+// The jump entry's depth.
+fn leaped(table: &[u32], n: u32, d: u32, jump: u32, depth: u32, cells: Cells) -> Answer
+    requires { ⌜ (Sized (now table) n) × (jump < jumpRoom n) ⌝ }
+    ensures { λ r. ⌜ r ≡ answerFrom (now (table .entry)) cells (leaped n d jump depth) ⌝ }
+{
+    if n <= depth {
+        return broken(cells);
+    }
+    if depth < d {
+        return broken(cells);
+    }
+    let x = depth - d;
+    if x == 0 {
+        return broken(cells);
+    }
+    jumped(table, n, jump, x, exponent(x), cells)
+}
+
+pub(crate) fn from_jump(table: &[u32], n: u32, d: u32, jump: u32, cells: Cells) -> Answer
+    requires { ⌜ Sized (now table) n ⌝ }
+    ensures { λ r. ⌜ r ≡ answerFrom (now (table .entry)) cells (fromJump n d jump) ⌝ }
+{
+    if n / 6 <= jump {
+        return broken(cells);
+    }
+    let got = read(table, 4 + 11 * n + 21 * jump, cells);
+    let depth = got.word;
+    let more = got.cells;
+    leaped(table, n, d, jump, depth, more)
+}

@@ -1,0 +1,160 @@
+// Steps 1 and 2: the table's count, and the entry with its depth. Then the way on by its kind.
+ghost use mathlib.Core.Path.{_≡_};
+ghost use mathlib.Core.List.{[]};
+ghost use Prim.Native.Nat.{_<_, _≤_};
+ghost use lib.ListN.{length};
+ghost use Rattle.base.specs.Limits.{Sized};
+ghost use Rattle.answers.specs.Answers.{listed, answerFrom};
+ghost use Rattle.answers.specs.Steps.{opened, entered, deep, wanted, descended, kinded};
+ghost use Rattle.query.specs.Parts.{routeFrom, countFrom, OpenedBy};
+use crate::group::Route;
+use crate::group::from_group;
+use crate::jump::from_jump;
+use crate::reading::broken;
+use crate::reading::read;
+use answers::Answer;
+use answers::Cells;
+use base::Node;
+
+// What step 1 finds: the number of entries, 0 where the table is broken.
+pub struct Count {
+    pub n: u32,
+    pub cells: Cells,
+}
+
+// The number of entries that a cell 0 stands for, 0 where the table is broken.
+fn counted(words: usize, n: u32) -> u32
+    ensures { λ r. ⌜ r ≡ countFrom words n ⌝ }
+{
+    if 1048576 < n {
+        return 0;
+    }
+    let most = 4 + 11 * n + 21 * (n / 6);
+    if words < most as usize {
+        return 0;
+    }
+    n
+}
+
+pub(crate) fn opened(table: &[u32]) -> Count
+    ensures { λ r. ⌜ OpenedBy (now (table .entry)) r ⌝ }
+{
+    let cells = Cells::new();
+    if table.len() < 4 {
+        return Count { n: 0, cells };
+    }
+    let got = read(table, 0, cells);
+    let n = counted(table.len(), got.word);
+    let more = got.cells;
+    Count { n, cells: more }
+}
+
+// By KIND: a group's route, or straight to step 4.
+fn routed(table: &[u32], n: u32, d: u32, depth: u32, kind: u32, cells: Cells) -> Route
+    requires { ⌜ (Sized (now table) n) × (d < depth) ⌝ }
+    ensures { λ r. ⌜ routeFrom (now (table .entry)) n d r ≡ answerFrom (now (table .entry)) cells (kinded n d depth kind) ⌝ }
+{
+    if 2147483648 <= kind {
+        let x = kind - 2147483648;
+        return from_group(table, n, d, depth, x / 8, x % 8, cells);
+    }
+    Route {
+        done: false,
+        number: 0,
+        word: kind,
+        cells,
+    }
+}
+
+// Step 4 is called from here alone, so that it can stand in place.
+fn kinded(table: &[u32], n: u32, d: u32, depth: u32, kind: u32, cells: Cells) -> Answer
+    requires { ⌜ (Sized (now table) n) × (d < depth) ⌝ }
+    ensures { λ r. ⌜ r ≡ answerFrom (now (table .entry)) cells (kinded n d depth kind) ⌝ }
+{
+    let route = routed(table, n, d, depth, kind, cells);
+    let more = route.cells;
+    let word = route.word;
+    let done = route.done;
+    if done {
+        return Answer {
+            number: route.number,
+            word,
+            cells: more,
+        };
+    }
+    from_jump(table, n, d, word, more)
+}
+
+fn descended(table: &[u32], n: u32, v: Node, d: u32, depth: u32, cells: Cells) -> Answer
+    requires { ⌜ (Sized (now table) n) × (v .0 < n) × (d ≤ depth) ⌝ }
+    ensures { λ r. ⌜ r ≡ answerFrom (now (table .entry)) cells (descended n (v .0) d depth) ⌝ }
+{
+    if depth == d {
+        return Answer {
+            number: 0,
+            word: v.0,
+            cells,
+        };
+    }
+    let got = read(table, 4 + n + v.0, cells);
+    let kind = got.word;
+    let more = got.cells;
+    kinded(table, n, d, depth, kind, more)
+}
+
+// The depth wanted, where x is a depth or counts climbs.
+fn wanted(climbs: bool, x: u32, depth: u32) -> u32
+    requires { ⌜ x ≤ depth ⌝ }
+    ensures { λ r. ⌜ (r ≡ wanted climbs x depth) × (r ≤ depth) ⌝ }
+{
+    if climbs { depth - x } else { x }
+}
+
+// Step 2: the depth of v.
+fn deep(table: &[u32], n: u32, climbs: bool, v: Node, x: u32, depth: u32, cells: Cells) -> Answer
+    requires { ⌜ (Sized (now table) n) × (v .0 < n) ⌝ }
+    ensures { λ r. ⌜ r ≡ answerFrom (now (table .entry)) cells (deep n climbs (v .0) x depth) ⌝ }
+{
+    if n <= depth {
+        return broken(cells);
+    }
+    if depth < x {
+        return Answer {
+            number: 8,
+            word: v.0,
+            cells,
+        };
+    }
+    descended(table, n, v, wanted(climbs, x, depth), depth, cells)
+}
+
+// Step 2: v.
+fn entered(table: &[u32], n: u32, climbs: bool, v: Node, x: u32, cells: Cells) -> Answer
+    requires { ⌜ Sized (now table) n ⌝ }
+    ensures { λ r. ⌜ r ≡ answerFrom (now (table .entry)) cells (entered climbs (v .0) x n) ⌝ }
+{
+    if n <= v.0 {
+        return Answer {
+            number: 7,
+            word: v.0,
+            cells,
+        };
+    }
+    let got = read(table, 4 + v.0, cells);
+    let depth = got.word;
+    let more = got.cells;
+    deep(table, n, climbs, v, x, depth, more)
+}
+
+// The level lookup of v at depth x, or x climbs up from v.
+pub(crate) fn look(table: &[u32], climbs: bool, v: Node, x: u32) -> Answer
+    ensures { λ r. ⌜ r ≡ answerFrom (now (table .entry)) (listed []) (opened (length (now (table .entry))) (entered climbs (v .0) x)) ⌝ }
+{
+    let open = opened(table);
+    let n = open.n;
+    let cells = open.cells;
+    if n == 0 {
+        return broken(cells);
+    }
+    entered(table, n, climbs, v, x, cells)
+}

@@ -1,0 +1,53 @@
+// Reading the table: the one place that indexes it, which lists the cell.
+ghost use mathlib.Core.Path.{_≡_};
+ghost use mathlib.Core.List.{List};
+ghost use Prim.Native.Nat.{ℕ, _<_};
+ghost use lib.ListN.{length};
+ghost use Rattle.base.specs.Numbers.{broken};
+ghost use Rattle.answers.specs.Reading.{done};
+ghost use Rattle.answers.specs.Answers.{answerFrom};
+ghost use Rattle.answers.specs.Steps.{answer};
+ghost use Rattle.query.specs.Parts.{gotAt};
+use answers::Answer;
+use answers::Cells;
+
+// A word that was read, and the cells read so far.
+pub struct Got {
+    pub word: u32,
+    pub cells: Cells,
+}
+
+pub(crate) fn read(table: &[u32], cell: u32, cells: Cells) -> Got
+    requires { ⌜ cell < length (now table) ⌝ }
+    ensures { λ r. ⌜ r ≡ gotAt (now (table .entry)) cell cells ⌝ }
+{
+    let at = cell as usize;
+    let word = table[at];
+    let more = cells.push(cell);
+    Got { word, cells: more }
+}
+
+// 9: the table is broken.
+pub(crate) fn broken(cells: Cells) -> Answer
+    ensures { λ r. ⌜ r ≡ record { number = 9; word = 0; cells = cells } ⌝ }
+{
+    Answer {
+        number: 9,
+        word: 0,
+        cells,
+    }
+}
+
+// A word that is to be the answer is an entry.
+pub(crate) fn settled(n: u32, word: u32, cells: Cells) -> Answer
+    ensures { λ r. ⌜ ((t : List ℕ) → r ≡ answerFrom t cells (answer n word)) ⌝ }
+{
+    if n <= word {
+        return broken(cells);
+    }
+    Answer {
+        number: 0,
+        word,
+        cells,
+    }
+}
