@@ -2,3 +2,6 @@
 pub mod Lists
 pub mod Counts
 pub mod Places
+pub mod Keeping
+pub mod Joined
+pub mod Rows

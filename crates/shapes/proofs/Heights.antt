@@ -42,7 +42,7 @@ low-start zero = omega arith
 low-start (suc i) = omega arith
 
 module _ (w : Walk) where
-  word-low : (v : ℕ) → v < length (parentList w) → (v ≡ 0 → ⊥) → word (parentList w) v < v
+  pub word-low : (v : ℕ) → v < length (parentList w) → (v ≡ 0 → ⊥) → word (parentList w) v < v
   unfolding parentList
   word-low zero h n = absurd (n refl)
   word-low (suc i) h n = omega (arith, parents-low w (0 ∷ []) 1 low-start i (omega arith))

@@ -7,7 +7,7 @@ use Prim.Native.Nat.{ℕ, zero, suc, _+_, _-_, _≤_, _<_}
 use native.Mathlib.Omega.{arith}
 use native.Mathlib.Nat.{not-suc-le-zero}
 use native.Mathlib.Decide.{decLe}
-use lib.ListN.{length}
+use lib.ListN.{length, getD}
 use lib.Dec.{leb}
 use borrow.Author.Tests.{le-leb, lt-leb}
 use Rattle.base.specs.Lists.{some?}
@@ -48,6 +48,11 @@ module _ (ps : List ℕ) (small : length ps ≤ topMark) where
   unfolding climbWithin
   climb-one zero v h = absurd (not-suc-le-zero h)
   climb-one (suc m) v h = omega arith
+
+  climb-self : (m v : ℕ) → 1 ≤ m → getD (climbWithin ps m v) 0 0 ≡ v
+  unfolding climbWithin
+  climb-self zero v h = absurd (not-suc-le-zero h)
+  climb-self (suc m) v h = refl
 
   pub climb-most : (m v : ℕ) → length (climbWithin ps m v) ≤ m
   unfolding climbWithin Option·elim
@@ -110,6 +115,14 @@ module _ (ps : List ℕ) (small : length ps ≤ topMark) where
         go : (o : Option ℕ) → up ps k v ≡ o → o ≡ none
         go none e = refl
         go (some u) e = absurd (omega (arith, up-depth k v u e))
+
+    -- the entry that k climbs reach stands at place k of the climb
+    pub climb-at : (k v u : ℕ) → up ps k v ≡ some u → getD (climb ps v) k 0 ≡ u
+    unfolding up
+    climb-at zero v u e = let (q, h) = entry-some ps v u e in climb-self (length ps) v (omega arith) ∙ q
+    climb-at (suc k) v u e =
+        let (p, q, r) = up-first ps k v u e in
+        rw (climb-parent v p q) (climb-at k p u r)
 
     -- the function is 003's level ancestor, and defined up to the depth
     level-in : (v d : ℕ) → d ≤ depth ps v → levelAncestor ps v d ≡ up ps (depth ps v - d) v

@@ -6,18 +6,18 @@ use mathlib.Core.Option.{Option, none, some, Option·some-ne-none}
 use Prim.Native.Nat.{ℕ, zero, suc, _+_, _-_, _≤_, _<_}
 use native.Mathlib.Omega.{arith}
 use native.Mathlib.Decide.{ℕ-discrete, decLe}
-use lib.ListN.{length, getD, take, drop, length-append, length-take, length-drop, List·getD-append}
-use lib.Seq.{getD-append-add, getD-at, drop-append-seam, take-at, take-add, take-take}
+use lib.ListN.{length, getD, take, drop, length-append, length-take, length-drop, take-append-drop, List·getD-append}
+use lib.Seq.{getD-append-add, getD-at, drop-append-seam, drop-drop, take-at, take-add, take-take}
 use Rattle.base.proofs.Counts.{times, times-append}
-use Rattle.base.proofs.Places.{times-same, times-other, stands}
+use Rattle.base.proofs.Places.{one-most, times-same, times-other, stands}
 use Rattle.tree.specs.Parents.{topMark, word, parent, up, depth, children}
 use Rattle.tree.specs.Forest.{Forest, plant, grow, preorder, forestSize, forestHeight, under, size, height, family, order, position}
 use Rattle.tree.specs.Level.{Ancestor}
-use Rattle.tree.specs.Faults.{Tree}
+use Rattle.tree.specs.Faults.{Tree, meetsTop}
 use Rattle.tree.proofs.Climbing.{entry-in, entry-some, parent-some, parent-in, up-step, up-first, up-in, up-from, up-add}
 use Rattle.tree.proofs.OneTree.{tree-meets, root-in, root-alone}
 use Rattle.tree.proofs.Depths.{climb-most, depth-top, depth-parent, up-depth}
-use Rattle.tree.proofs.Forests.{Measure, size-measure, height-measure, plant-more, plant-append, forest-length, child-of, of-child, under-eq, whole-eq}
+use Rattle.tree.proofs.Forests.{Measure, size-measure, height-measure, plant-more, plant-append, forest-length, child-of, of-child, under-eq, whole-eq, order-once}
 use Rattle.tree.proofs.Positions.{order-length, at-position, position-is, order-in, position-of}
 
 -- s is a part of l: its entries stand side by side there
@@ -162,6 +162,18 @@ module _ (ps : List ℕ) (small : length ps ≤ topMark) (tree : Tree ps) where
       take-add (position ps v) i (order ps)
       ∙ ap (λ l. take (position ps v) (order ps) ++ l) (sym (take-take i (size ps v) (drop (position ps v) (order ps)) b) ∙ ap (take i) (family-part v h))
 
+  -- the preorder from its position on begins with the family, and the whole is what stands before, the family, and what stands behind
+  pub family-drop : (v : ℕ) → v < length ps → drop (position ps v) (order ps) ≡ family ps v ++ drop (position ps v + size ps v) (order ps)
+  family-drop v h =
+      sym (take-append-drop (size ps v) (drop (position ps v) (order ps)))
+      ∙ rw (drop-drop (size ps v) (position ps v) (order ps))
+      (ap (λ l. l ++ drop (position ps v + size ps v) (order ps)) (family-part v h))
+
+  pub family-split : (v : ℕ) → v < length ps → order ps ≡ take (position ps v) (order ps) ++ (family ps v ++ drop (position ps v + size ps v) (order ps))
+  family-split v h =
+      sym (take-append-drop (position ps v) (order ps))
+      ∙ ap (λ l. take (position ps v) (order ps) ++ l) (family-drop v h)
+
   -- an ancestor's family holds the entry's own
   pub inside : (u v : ℕ) → Ancestor ps u v → (position ps u ≤ position ps v) × (position ps v + size ps v ≤ position ps u + size ps u)
   inside u v a =
@@ -195,16 +207,34 @@ module _ (ps : List ℕ) (small : length ps ≤ topMark) (tree : Tree ps) where
   pub family-ancestor : (u x : ℕ) → u < length ps → 1 ≤ times x (family ps u) → Ancestor ps u x
   family-ancestor = grown-ancestor (length ps)
 
+  interval-in : (u v : ℕ) → u < length ps → v < length ps → (position ps u ≤ position ps v) × (position ps v < position ps u + size ps u) → 1 ≤ times v (family ps u)
+  interval-in u v hu hv b =
+      let i = position ps v - position ps u in
+      let z : position ps u + i ≡ position ps v = omega arith in
+      let e : getD (family ps u) i 0 ≡ v = sym (family-at u i hu (omega arith)) ∙ ap (λ j. getD (order ps) j 0) z ∙ at-position ps small tree v hv in
+      stands v (family ps u) i (omega (arith, family-length u)) e
+
   -- so u is an ancestor of v just where v's position is one of u's family
   pub interval : (u v : ℕ) → u < length ps → v < length ps → Ancestor ps u v ↔ ((position ps u ≤ position ps v) × (position ps v < position ps u + size ps u))
-  interval u v hu hv = (λ a. let r = inside u v a in (r .0, omega (arith, r .1)), λ b. family-ancestor u v hu (found b))
+  interval u v hu hv = (λ a. let r = inside u v a in (r .0, omega (arith, r .1)), λ b. family-ancestor u v hu (interval-in u v hu hv b))
+
+  -- an entry is in each ancestor's family, and in no family twice: what is below an entry is so by one climb or more
+  pub ancestor-family : (u v : ℕ) → Ancestor ps u v → 1 ≤ times v (family ps u)
+  ancestor-family u v a = let (hu, hv) = ancestor-in u v a in interval-in u v hu hv (interval u v hu hv .0 a)
+
+  pub family-once : (v x : ℕ) → v < length ps → times x (family ps v) ≤ 1
+  family-once v x h =
+      let a = take (position ps v) (order ps) in
+      let b = drop (position ps v + size ps v) (order ps) in
+      omega (arith, ap (times x) (family-split v h), times-append x a (family ps v ++ b), times-append x (family ps v) b, order-once ps small x, one-most (meetsTop ps x))
+
+  pub under-up : (u x : ℕ) → u < length ps → 1 ≤ times x (preorder (under ps u)) → (k : ℕ) × (up ps (suc k) x ≡ some u)
+  unfolding up times
+  under-up u x h m = let a = family-ancestor u x h (omega arith) in go (a .climbs) (a .reached)
     where
-      found : (position ps u ≤ position ps v) × (position ps v < position ps u + size ps u) → 1 ≤ times v (family ps u)
-      found b =
-          let i = position ps v - position ps u in
-          let z : position ps u + i ≡ position ps v = omega arith in
-          let e : getD (family ps u) i 0 ≡ v = sym (family-at u i hu (omega arith)) ∙ ap (λ j. getD (order ps) j 0) z ∙ at-position ps small tree v hv in
-          stands v (family ps u) i (omega (arith, family-length u)) e
+      go : (k : ℕ) → up ps k x ≡ some u → (k : ℕ) × (up ps (suc k) x ≡ some u)
+      go zero e = absurd (omega (arith, family-once u x h, times-same x u (preorder (under ps u)) (entry-some ps x u e .0)))
+      go (suc k) e = (k, e)
 
   -- a parent stands before its children
   pub parent-before : (v p : ℕ) → parent ps v ≡ some p → position ps p < position ps v

@@ -1,0 +1,11 @@
+-- The mathematics of the lookup on a prepared table: long paths, jump nodes, groups.
+pub mod Paths
+pub mod OwnPaths
+pub mod Jumps
+pub mod Groups
+pub mod Words
+pub mod Microtrees
+pub mod Ladders
+pub mod Room
+pub mod Running
+pub mod Filling
