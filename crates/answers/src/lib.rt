@@ -1,6 +1,8 @@
 // Answers: the cells read by value, and the answer that carries them.
 ghost use mathlib.Core.Path.{_≡_};
 ghost use mathlib.Core.List.{[]};
+ghost use Prim.Native.Nat.{_+_, _<_};
+ghost use lib.ListN.{set};
 ghost use Rattle.answers.specs.Answers.{pushed, listed};
 
 // The cells read, in the order read. Places past the count are 0.
@@ -28,16 +30,39 @@ impl Cells {
         }
     }
 
-    // The list with one cell more. A full list stays as it is.
-    pub fn push(mut self, cell: u32) -> Cells
+    // The list with a cell at place i, which becomes its last.
+    fn put(mut self, i: u32, cell: u32) -> Cells
+        requires { ⌜ i < 15 ⌝ }
+        ensures { λ r. ⌜ r ≡ record { at = set (self .at) i cell; count = i + 1 } ⌝ }
+    {
+        self.at[i as usize] = cell;
+        self.count = i + 1;
+        self
+    }
+
+    // The list with one cell more. A full list stays as it is. Each arm stores at a constant place, so that the compiler can hold a list whose count it
+    // knows in registers.
+    pub fn push(self, cell: u32) -> Cells
         ensures { λ r. ⌜ r ≡ pushed self cell ⌝ }
     {
         let count = self.count;
-        if 15 <= count {
-            return self;
+        match count {
+            0 => self.put(0, cell),
+            1 => self.put(1, cell),
+            2 => self.put(2, cell),
+            3 => self.put(3, cell),
+            4 => self.put(4, cell),
+            5 => self.put(5, cell),
+            6 => self.put(6, cell),
+            7 => self.put(7, cell),
+            8 => self.put(8, cell),
+            9 => self.put(9, cell),
+            10 => self.put(10, cell),
+            11 => self.put(11, cell),
+            12 => self.put(12, cell),
+            13 => self.put(13, cell),
+            14 => self.put(14, cell),
+            _ => self,
         }
-        self.at[count as usize] = cell;
-        self.count = count + 1;
-        self
     }
 }

@@ -1,4 +1,5 @@
 -- Laws of the functions on lists.
+pub mod Arms
 pub mod Lists
 pub mod Counts
 pub mod Places

@@ -1,6 +1,6 @@
 // Step 3: within a group, and out of it.
 ghost use mathlib.Core.Path.{_≡_};
-ghost use mathlib.Core.List.{List};
+ghost use mathlib.Core.List.{List, []};
 ghost use mathlib.Core.Bool.{Bool};
 ghost use Prim.Native.Nat.{ℕ, _<_, _≤_};
 ghost use lib.ListN.{getD};
@@ -98,7 +98,14 @@ fn in_order(table: &[u32], n: u32, local: u32, position: Position, cells: Cells)
 fn reached(row: [u8; 5], k: u32) -> u8
     ensures { λ r. ⌜ r ≡ getD row k 255 ⌝ }
 {
-    if k < 5 { row[k as usize] } else { 255 }
+    match k {
+        0 => row[0],
+        1 => row[1],
+        2 => row[2],
+        3 => row[3],
+        4 => row[4],
+        _ => 255,
+    }
 }
 
 // Within the group where the climbs asked end there, else from the group's parent.
@@ -131,6 +138,20 @@ fn in_group(
     ended(in_order(table, n, to as u32, position, more))
 }
 
+// The row of a local number. Constant places, here and above, let the compiler hold the rows in registers.
+fn row_of(all: [[u8; 5]; 5], local: u32) -> [u8; 5]
+    requires { ⌜ local < 5 ⌝ }
+    ensures { λ r. ⌜ r ≡ getD all local [] ⌝ }
+{
+    match local {
+        0 => all[0],
+        1 => all[1],
+        2 => all[2],
+        3 => all[3],
+        _ => all[4],
+    }
+}
+
 // The shape, and the local number's row in it.
 fn shaped(
     table: &[u32],
@@ -151,8 +172,7 @@ fn shaped(
     if 5 <= local {
         return ended(broken(cells));
     }
-    let all = rows(shape);
-    let row = all[local as usize];
+    let row = row_of(rows(shape), local);
     if row[0] == 255 {
         return ended(broken(cells));
     }

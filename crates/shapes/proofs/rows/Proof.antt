@@ -2,10 +2,11 @@
 use mathlib.Core.Path.{_≡_, sym, ap, subst⁻¹}
 use mathlib.Core.List.{List}
 use mathlib.Core.Option.{bind}
-use Prim.Native.Nat.{ℕ, zero, suc, _≤_}
+use Prim.Native.Nat.{ℕ}
 use native.Mathlib.Omega.{arith}
 use Rattle.base.specs.Limits.{groupLimit, shapeCount}
 use Rattle.base.specs.Lists.{each}
+use Rattle.base.proofs.Arms.{past}
 use Rattle.tree.specs.Parents.{entry, parent, up}
 use Rattle.shapes.specs.Climbs.{parentList, reached, rowOf, rowsOf, Rule}
 use Rattle.shapes.proofs.Rule.{rule, no-shape}
@@ -19,16 +20,6 @@ both s e = (e, subst⁻¹ (Rule groupLimit s) e (rule groupLimit (omega arith) s
 -- the arm of number i
 here : {s : ℕ} (i : ℕ) → s ≡ i → (rowsOf groupLimit i ≡ rowsOf groupLimit s) × Rule groupLimit s (rowsOf groupLimit i)
 here {s} i e = both s (ap (rowsOf groupLimit) (sym e))
-
--- s is none of 0, .., n - 1: what the last arm knows
-abbrev Differs : ℕ → ℕ → Type 0
-Differs zero s = Unit
-Differs (suc n) s = Differs n s × (s ≡ n → ⊥)
-
--- then s is n or more
-past : (n s : ℕ) → Differs n s → n ≤ s
-past zero s d = omega arith
-past (suc n) s d = omega (arith, past n s (d .0), d .1)
 
 pub rows-spec : {M : Type 1} → statement M
 unfolding rowsOf rowOf reached parentList up parent entry bind each
