@@ -51,6 +51,11 @@ within-then (suc b) (read cell k) f h i = λ w. within-then b (k w) f (h w) i
 
 pub ruleset bounds = (within-done, within-read, within-le, within-lt, within-eq, within-none, within-then)
 
+-- four cells for step 4
+pub jump-within : (n d jump : ℕ) → Within 4 (fromJump n d jump)
+unfolding fromJump leaped jumped landed ladder answer Within
+jump-within n d jump = search bounds depth 40
+
 -- ten cells for the level lookup, a climb and a rating, four for ancestry, fifteen for branch
 module _ (len : ℕ) where
   looked : (climbs : Bool) (v x : ℕ) → Within 10 (opened len (entered climbs v x))

@@ -1,19 +1,16 @@
 -- How a program's answer goes on over a test, a read and an end: `steps` has `search` walk a program by these. Assumes nothing.
-use mathlib.Core.Path.{_≡_, refl, sym, _∙_}
+use mathlib.Core.Path.{_≡_, ap}
 use mathlib.Core.List.{List}
 use mathlib.Core.Option.{Option, none, some, Option·elim}
-use mathlib.Core.Bool.{true, false}
 use Prim.Native.Nat.{ℕ, _+_, _≤_, _<_}
 use native.Mathlib.Omega.{arith}
 use borrow.Author.Tests.{le-leb, lt-leb, lt-ltb, le-ltb, eq-eqb, ne-eqb}
 use Rattle.base.specs.Numbers.{Outcome}
 use Rattle.answers.specs.Reading.{Reading, done, read, ifLe, ifLt, ifEq, ifNone}
-use Rattle.answers.specs.Answers.{answerFrom}
-use Rattle.answers.specs.Steps.{fromJump}
+use Rattle.answers.specs.Answers.{pushed, answerFrom}
 use Rattle.answers.specs.declared.Cells.{Cells}
 use Rattle.answers.specs.declared.Answer.{Answer}
-use Rattle.query.specs.Parts.{gotAt, routed, routeFrom}
-use Rattle.query.specs.declared.group.Route.{Route}
+use Rattle.query.specs.Parts.{gotAt}
 use Rattle.query.specs.declared.reading.Got.{Got}
 
 module _ (r : Answer) (t : List ℕ) (cs : Cells) where
@@ -61,23 +58,7 @@ module _ (r : Answer) (t : List ℕ) (cs : Cells) where
 
 pub ruleset steps = (le-yes, le-no, lt-yes, lt-no, eq-yes, eq-no, is-none, is-some, reads, ends)
 
--- a route that an answer ends gives that answer
-pub route-ended : (t : List ℕ) (n d : ℕ) (a b : Answer) (r : Route) → r ≡ routed a → a ≡ b → routeFrom t n d r ≡ b
-unfolding routeFrom
-route-ended t n d a b r e h = rw (e, h)
-
--- an open route gives what step 4 gives from its jump entry
-pub route-open : (t : List ℕ) (n d kind : ℕ) (cs : Cells) → routeFrom t n d (record { done = false; number = 0; word = kind; cells = cs }) ≡ answerFrom t cs (fromJump n d kind)
-unfolding routeFrom
-route-open t n d kind cs = refl
-
-pub ruleset routes = (steps, route-ended, route-open)
-
--- a route by whether it is done
-pub route-answer : (t : List ℕ) (n d : ℕ) (r : Route) → r .done ≡ true → routeFrom t n d r ≡ record { number = r .number; word = r .word; cells = r .cells }
-unfolding routeFrom
-route-answer t n d r e = rw e
-
-pub route-next : (t : List ℕ) (n d : ℕ) (r : Route) → r .done ≡ false → routeFrom t n d r ≡ answerFrom t (r .cells) (fromJump n d (r .word))
-unfolding routeFrom
-route-next t n d r e = rw e
+-- a read lists one cell more
+pub got-count : (g : Got) (w cell : ℕ) (cs : Cells) (k : ℕ) → g ≡ record { word = w; cells = pushed cs cell } → cs .count ≡ k → k < 15 → g .cells .count ≡ k + 1
+unfolding pushed
+got-count g w cell cs k e h low = rw e (rw (lt-ltb (cs .count) 15 (rw h low)) (ap (λ n. n + 1) h))

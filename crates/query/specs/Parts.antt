@@ -10,12 +10,11 @@ use Rattle.base.specs.Limits.{Sized, mostEntries, tableWords, groupLimit}
 use Rattle.shapes.specs.Climbs.{reached, rowOf}
 use Rattle.answers.specs.Reading.{Reading, wordAt}
 use Rattle.answers.specs.Answers.{pushed, listed, answerFrom}
-use Rattle.answers.specs.Steps.{fromJump, opened}
+use Rattle.answers.specs.Steps.{opened}
 use Rattle.answers.specs.declared.Cells.{Cells}
 use Rattle.answers.specs.declared.Answer.{Answer}
 use Rattle.query.specs.declared.reading.Got.{Got}
 use Rattle.query.specs.declared.relate.Relation.{Relation}
-use Rattle.query.specs.declared.group.Route.{Route}
 use Rattle.query.specs.declared.look.Count.{Count}
 
 -- one word read, and its cell listed
@@ -25,14 +24,6 @@ gotAt t cell cs = record { word = wordAt t cell; cells = pushed cs cell }
 abbrev pub pickAnswer : Bool → Answer → Answer → Answer
 pickAnswer true a b = a
 pickAnswer false a b = b
-
--- an answer as the end of a route
-abbrev pub routed : Answer → Route
-routed a = record { done = true; number = a .number; word = a .word; cells = a .cells }
-
--- what a route through step 3 gives: its answer, or what step 4 gives from its jump entry
-unfoldable pub routeFrom : List ℕ → ℕ → ℕ → Route → Answer
-routeFrom t n d r = pickAnswer (r .done) (record { number = r .number; word = r .word; cells = r .cells }) (answerFrom t (r .cells) (fromJump n d (r .word)))
 
 -- an entry of depth `depth`, with local number `local` in a group of shape `shape`, and its row of climbs; it is deeper than d
 pub record InGroup (t : List ℕ) (n d depth group shape local : ℕ) (row : List ℕ) : Type 0 where
@@ -53,6 +44,7 @@ openFrom t o next = pickAnswer (eqb (o .n) 0) (record { number = 9; word = 0; ce
 -- step 1 was taken on the table t: a count that is not 0 has room, and any program goes on from there
 pub record OpenedBy (t : List ℕ) (o : Count) : Type 0 where
   pub room : (o .n ≡ 0 → ⊥) → Sized t (o .n)
+  pub one : (o .n ≡ 0 → ⊥) → o .cells .count ≡ 1
   pub goes : (next : ℕ → Reading) → openFrom t o next ≡ answerFrom t (listed []) (opened (length t) next)
 
 -- what a relation of u to v gives two programs, one for "at or above" and one for not

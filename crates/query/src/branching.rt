@@ -1,11 +1,12 @@
 // Branch: past the ancestry test, the level lookup of v one deeper than u, its cells listed behind those so far.
 ghost use mathlib.Core.Path.{_≡_};
 ghost use mathlib.Core.List.{[]};
-ghost use Prim.Native.Nat.{_<_, _≤_};
-ghost use lib.ListN.{length, take};
+ghost use Prim.Native.Nat.{_<_};
+ghost use lib.ListN.{length};
 ghost use Rattle.base.specs.Limits.{Sized};
-ghost use Rattle.answers.specs.Answers.{pushedAll, listed, answerFrom};
+ghost use Rattle.answers.specs.Answers.{listed, answerFrom};
 ghost use Rattle.answers.specs.Steps.{branch, strictly, deeper};
+use crate::joining::joined;
 use crate::look::look;
 use crate::look::opened;
 use crate::reading::broken;
@@ -14,22 +15,6 @@ use crate::relate::related;
 use answers::Answer;
 use answers::Cells;
 use base::Node;
-
-// The cells of one list behind those of another.
-fn joined(cells: Cells, more: Cells) -> Cells
-    requires { ⌜ more .count ≤ 15 ⌝ }
-    ensures { λ r. ⌜ r ≡ pushedAll cells (take (more .count) (more .at)) ⌝ }
-{
-    let at = more.at;
-    let count = more.count;
-    let mut all = cells;
-    let mut i: u32 = 0;
-    while i < count {
-        all = all.push(at[i as usize]);
-        i += 1;
-    }
-    all
-}
 
 // An 8 of the level lookup is given as 9.
 fn deeper(table: &[u32], n: u32, v: Node, depth: u32, cells: Cells) -> Answer

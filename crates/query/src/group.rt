@@ -8,7 +8,9 @@ ghost use lib.Dec.{eqb};
 ghost use Rattle.base.specs.Limits.{Sized};
 ghost use Rattle.answers.specs.Answers.{answerFrom};
 ghost use Rattle.answers.specs.Steps.{overGroup, leftGroup, inOrder, inGroup, shaped, fromGroup};
-ghost use Rattle.query.specs.Parts.{routeFrom, routed, InGroup};
+ghost use Rattle.query.specs.Parts.{InGroup};
+use crate::joining::with_four;
+use crate::jump::from_jump;
 use crate::reading::broken;
 use crate::reading::read;
 use crate::reading::settled;
@@ -18,53 +20,33 @@ use base::Node;
 use base::Position;
 use shapes::rows;
 
-// Where step 3 has come to: an answer, or, where it is not done, the number of a jump entry to go on from.
-pub struct Route {
-    pub done: bool,
-    pub number: u32,
-    pub word: u32,
-    pub cells: Cells,
-}
-
-// An answer ends the route.
-fn ended(a: Answer) -> Route
-    ensures { λ r. ⌜ r ≡ routed a ⌝ }
-{
-    let cells = a.cells;
-    Route {
-        done: true,
-        number: a.number,
-        word: a.word,
-        cells,
-    }
-}
-
-// KIND of the group's parent, which is not micro.
-fn over_group(kind: u32, cells: Cells) -> Route
-    ensures { λ r. ⌜ ((t : List ℕ) (n d : ℕ) → routeFrom t n d r ≡ answerFrom t cells (overGroup n d kind)) ⌝ }
+// KIND of the group's parent, which is not micro: step 4 from there. Six cells were read.
+fn over_group(table: &[u32], n: u32, d: u32, kind: u32, cells: Cells) -> Answer
+    requires { ⌜ (Sized (now table) n) × (cells .count ≡ 6) ⌝ }
+    ensures { λ r. ⌜ r ≡ answerFrom (now (table .entry)) cells (overGroup n d kind) ⌝ }
 {
     if 2147483648 <= kind {
-        return ended(broken(cells));
+        return broken(cells);
     }
-    Route {
-        done: false,
-        number: 0,
-        word: kind,
-        cells,
+    let a = from_jump(table, n, d, kind);
+    let more = a.cells;
+    Answer {
+        number: a.number,
+        word: a.word,
+        cells: with_four(cells, 6, more),
     }
 }
 
 // The group's parent p; `here` tells whether p has the depth asked.
-fn left_group(table: &[u32], n: u32, here: bool, p: Node, cells: Cells) -> Route
-    requires { ⌜ Sized (now table) n ⌝ }
-    ensures { λ r. ⌜ ((d depth : ℕ) → here ≡ eqb depth d → routeFrom (now (table .entry)) n d r ≡ answerFrom (now (table .entry)) cells (leftGroup n d depth (p .0))) ⌝ }
+fn left_group(table: &[u32], n: u32, d: u32, here: bool, p: Node, cells: Cells) -> Answer
+    requires { ⌜ (Sized (now table) n) × (cells .count ≡ 5) ⌝ }
+    ensures { λ r. ⌜ ((depth : ℕ) → here ≡ eqb depth d → r ≡ answerFrom (now (table .entry)) cells (leftGroup n d depth (p .0))) ⌝ }
 {
     if n <= p.0 {
-        return ended(broken(cells));
+        return broken(cells);
     }
     if here {
-        return Route {
-            done: true,
+        return Answer {
             number: 0,
             word: p.0,
             cells,
@@ -73,7 +55,7 @@ fn left_group(table: &[u32], n: u32, here: bool, p: Node, cells: Cells) -> Route
     let got = read(table, 4 + n + p.0, cells);
     let kind = got.word;
     let more = got.cells;
-    over_group(kind, more)
+    over_group(table, n, d, kind, more)
 }
 
 // ORDER at the group's position plus the local number reached. The sum is tested before it is made, so that it does not wrap.
@@ -119,9 +101,9 @@ fn in_group(
     local: u32,
     row: [u8; 5],
     cells: Cells,
-) -> Route
-    requires { ⌜ InGroup (now table) n d depth group shape local row ⌝ }
-    ensures { λ r. ⌜ routeFrom (now (table .entry)) n d r ≡ answerFrom (now (table .entry)) cells (inGroup n d depth group local shape) ⌝ }
+) -> Answer
+    requires { ⌜ (InGroup (now table) n d depth group shape local row) × (cells .count ≡ 4) ⌝ }
+    ensures { λ r. ⌜ r ≡ answerFrom (now (table .entry)) cells (inGroup n d depth group local shape) ⌝ }
 {
     let climbs = depth - d;
     let to = reached(row, climbs);
@@ -130,12 +112,12 @@ fn in_group(
         let got = read(table, 4 + 8 * n + 3 * group + 2, cells);
         let p = Node(got.word);
         let more = got.cells;
-        return left_group(table, n, before != 255, p, more);
+        return left_group(table, n, d, before != 255, p, more);
     }
     let got = read(table, 4 + 8 * n + 3 * group, cells);
     let position = Position(got.word);
     let more = got.cells;
-    ended(in_order(table, n, to as u32, position, more))
+    in_order(table, n, to as u32, position, more)
 }
 
 // The row of a local number. Constant places, here and above, let the compiler hold the rows in registers.
@@ -162,19 +144,19 @@ fn shaped(
     local: u32,
     shape: u32,
     cells: Cells,
-) -> Route
-    requires { ⌜ (Sized (now table) n) × (group < n) × (d < depth) ⌝ }
-    ensures { λ r. ⌜ routeFrom (now (table .entry)) n d r ≡ answerFrom (now (table .entry)) cells (shaped n d depth group local shape) ⌝ }
+) -> Answer
+    requires { ⌜ (Sized (now table) n) × (group < n) × (d < depth) × (cells .count ≡ 4) ⌝ }
+    ensures { λ r. ⌜ r ≡ answerFrom (now (table .entry)) cells (shaped n d depth group local shape) ⌝ }
 {
     if 23 <= shape {
-        return ended(broken(cells));
+        return broken(cells);
     }
     if 5 <= local {
-        return ended(broken(cells));
+        return broken(cells);
     }
     let row = row_of(rows(shape), local);
     if row[0] == 255 {
-        return ended(broken(cells));
+        return broken(cells);
     }
     in_group(table, n, d, depth, group, shape, local, row, cells)
 }
@@ -187,12 +169,12 @@ pub(crate) fn from_group(
     group: u32,
     local: u32,
     cells: Cells,
-) -> Route
-    requires { ⌜ (Sized (now table) n) × (d < depth) ⌝ }
-    ensures { λ r. ⌜ routeFrom (now (table .entry)) n d r ≡ answerFrom (now (table .entry)) cells (fromGroup n d depth group local) ⌝ }
+) -> Answer
+    requires { ⌜ (Sized (now table) n) × (d < depth) × (cells .count ≡ 3) ⌝ }
+    ensures { λ r. ⌜ r ≡ answerFrom (now (table .entry)) cells (fromGroup n d depth group local) ⌝ }
 {
     if n <= group {
-        return ended(broken(cells));
+        return broken(cells);
     }
     let got = read(table, 4 + 8 * n + 3 * group + 1, cells);
     let shape = got.word;

@@ -1,9 +1,10 @@
 // Step 4: one jump and one ladder.
 ghost use mathlib.Core.Path.{_≡_};
+ghost use mathlib.Core.List.{[]};
 ghost use mathlib.Core.Option.{some};
 ghost use Prim.Native.Nat.{_+_, _-_, _*_, _^_, _<_, _≤_};
 ghost use Rattle.base.specs.Limits.{Sized, jumpRoom};
-ghost use Rattle.answers.specs.Answers.{answerFrom};
+ghost use Rattle.answers.specs.Answers.{listed, answerFrom};
 ghost use Rattle.answers.specs.Steps.{exponent, ladder, landed, jumped, leaped, fromJump};
 use crate::power::exponent;
 use crate::power::power;
@@ -75,10 +76,12 @@ fn leaped(table: &[u32], n: u32, d: u32, jump: u32, depth: u32, cells: Cells) ->
     jumped(table, n, jump, x, exponent(x), cells)
 }
 
-pub(crate) fn from_jump(table: &[u32], n: u32, d: u32, jump: u32, cells: Cells) -> Answer
+// Step 4 from a jump entry, with a list of its own, of four cells at most.
+pub(crate) fn from_jump(table: &[u32], n: u32, d: u32, jump: u32) -> Answer
     requires { ⌜ Sized (now table) n ⌝ }
-    ensures { λ r. ⌜ r ≡ answerFrom (now (table .entry)) cells (fromJump n d jump) ⌝ }
+    ensures { λ r. ⌜ r ≡ answerFrom (now (table .entry)) (listed []) (fromJump n d jump) ⌝ }
 {
+    let cells = Cells::new();
     if n / 6 <= jump {
         return broken(cells);
     }

@@ -1,6 +1,7 @@
 // The five questions, on a lent table of any length and contents. Each gives a result or one of the numbered refusals.
 mod branching;
 mod group;
+mod joining;
 mod jump;
 mod look;
 mod power;

@@ -6,9 +6,9 @@ ghost use lib.ListN.{length};
 ghost use Rattle.base.specs.Limits.{Sized};
 ghost use Rattle.answers.specs.Answers.{listed, answerFrom};
 ghost use Rattle.answers.specs.Steps.{opened, entered, deep, wanted, descended, kinded};
-ghost use Rattle.query.specs.Parts.{routeFrom, countFrom, OpenedBy};
-use crate::group::Route;
+ghost use Rattle.query.specs.Parts.{countFrom, OpenedBy};
 use crate::group::from_group;
+use crate::joining::with_four;
 use crate::jump::from_jump;
 use crate::reading::broken;
 use crate::reading::read;
@@ -49,44 +49,26 @@ pub(crate) fn opened(table: &[u32]) -> Count
     Count { n, cells: more }
 }
 
-// By KIND: a group's route, or straight to step 4.
-fn routed(table: &[u32], n: u32, d: u32, depth: u32, kind: u32, cells: Cells) -> Route
-    requires { ⌜ (Sized (now table) n) × (d < depth) ⌝ }
-    ensures { λ r. ⌜ routeFrom (now (table .entry)) n d r ≡ answerFrom (now (table .entry)) cells (kinded n d depth kind) ⌝ }
+// By KIND: a group, or straight to step 4. Three cells were read.
+fn kinded(table: &[u32], n: u32, d: u32, depth: u32, kind: u32, cells: Cells) -> Answer
+    requires { ⌜ (Sized (now table) n) × (d < depth) × (cells .count ≡ 3) ⌝ }
+    ensures { λ r. ⌜ r ≡ answerFrom (now (table .entry)) cells (kinded n d depth kind) ⌝ }
 {
     if 2147483648 <= kind {
         let x = kind - 2147483648;
         return from_group(table, n, d, depth, x / 8, x % 8, cells);
     }
-    Route {
-        done: false,
-        number: 0,
-        word: kind,
-        cells,
+    let a = from_jump(table, n, d, kind);
+    let more = a.cells;
+    Answer {
+        number: a.number,
+        word: a.word,
+        cells: with_four(cells, 3, more),
     }
-}
-
-// Step 4 is called from here alone, so that it can stand in place.
-fn kinded(table: &[u32], n: u32, d: u32, depth: u32, kind: u32, cells: Cells) -> Answer
-    requires { ⌜ (Sized (now table) n) × (d < depth) ⌝ }
-    ensures { λ r. ⌜ r ≡ answerFrom (now (table .entry)) cells (kinded n d depth kind) ⌝ }
-{
-    let route = routed(table, n, d, depth, kind, cells);
-    let more = route.cells;
-    let word = route.word;
-    let done = route.done;
-    if done {
-        return Answer {
-            number: route.number,
-            word,
-            cells: more,
-        };
-    }
-    from_jump(table, n, d, word, more)
 }
 
 fn descended(table: &[u32], n: u32, v: Node, d: u32, depth: u32, cells: Cells) -> Answer
-    requires { ⌜ (Sized (now table) n) × (v .0 < n) × (d ≤ depth) ⌝ }
+    requires { ⌜ (Sized (now table) n) × (v .0 < n) × (d ≤ depth) × (cells .count ≡ 2) ⌝ }
     ensures { λ r. ⌜ r ≡ answerFrom (now (table .entry)) cells (descended n (v .0) d depth) ⌝ }
 {
     if depth == d {
@@ -112,7 +94,7 @@ fn wanted(climbs: bool, x: u32, depth: u32) -> u32
 
 // Step 2: the depth of v.
 fn deep(table: &[u32], n: u32, climbs: bool, v: Node, x: u32, depth: u32, cells: Cells) -> Answer
-    requires { ⌜ (Sized (now table) n) × (v .0 < n) ⌝ }
+    requires { ⌜ (Sized (now table) n) × (v .0 < n) × (cells .count ≡ 2) ⌝ }
     ensures { λ r. ⌜ r ≡ answerFrom (now (table .entry)) cells (deep n climbs (v .0) x depth) ⌝ }
 {
     if n <= depth {
@@ -130,7 +112,7 @@ fn deep(table: &[u32], n: u32, climbs: bool, v: Node, x: u32, depth: u32, cells:
 
 // Step 2: v.
 fn entered(table: &[u32], n: u32, climbs: bool, v: Node, x: u32, cells: Cells) -> Answer
-    requires { ⌜ Sized (now table) n ⌝ }
+    requires { ⌜ (Sized (now table) n) × (cells .count ≡ 1) ⌝ }
     ensures { λ r. ⌜ r ≡ answerFrom (now (table .entry)) cells (entered climbs (v .0) x n) ⌝ }
 {
     if n <= v.0 {

@@ -1,7 +1,8 @@
 -- `group::from_group` meets its contract. Assumes nothing.
+use lib.Dec.{lit<}
 use borrow.Author.Needs.{needs}
 use Rattle.answers.specs.Steps.{fromGroup}
-use Rattle.query.proofs.Walking.{routes}
+use Rattle.query.proofs.Walking.{steps, got-count}
 use Rattle.query.proofs.group.from_group.Statement.{statement}
 use Rattle.query.proofs.group.from_group.Tie as tie
 
@@ -11,13 +12,12 @@ from-group-spec =
     tie.close
     (tie.spec
     (λ c κs. search needs)
-    (λ c κs. search needs)
-    (λ c. search routes)
+    (λ c. search steps)
     (λ c. search needs)
     (λ c. search needs)
     (λ c. search needs)
     (λ c. search needs)
     (λ c. search needs)
     (λ c κs. search needs)
-    (λ c κs. search needs)
-    (λ c. search routes))
+    (λ c κs. (search needs, search needs, search needs, got-count _ _ _ _ 3 (c .before .read .ensures) (c .before .before .before .before .pre .2) (lit< tt)))
+    (λ c. search steps))

@@ -1,7 +1,9 @@
 -- `group::over_group` meets its contract. Assumes nothing.
+use lib.Dec.{lit≤}
 use borrow.Author.Needs.{needs}
 use Rattle.answers.specs.Steps.{overGroup}
-use Rattle.query.proofs.Walking.{routes}
+use Rattle.query.proofs.Behind.{jump-four, jump-long, jump-goes}
+use Rattle.query.proofs.Walking.{steps, le-no}
 use Rattle.query.proofs.group.over_group.Statement.{statement}
 use Rattle.query.proofs.group.over_group.Tie as tie
 
@@ -11,6 +13,9 @@ over-group-spec =
     tie.close
     (tie.spec
     (λ c κs. search needs)
+    (λ c. search steps)
     (λ c κs. search needs)
-    (λ c t n d. search routes)
-    (λ c t n d. search routes))
+    (λ c κs. (c .before .before .before .before .pre .1, lit≤ tt, jump-four _ _ _ _ _ (c .before .from-jump .ensures), jump-long _ _ _ _ _ (c .before .from-jump .ensures)))
+    (λ c.
+    let jump = c .before .before in
+    le-no _ _ _ _ _ _ _ (jump .before .if1 .left) (jump-goes _ _ _ _ _ (jump .from-jump .ensures) _ _ (c .with-four .ensures))))

@@ -11,11 +11,12 @@ from-jump-spec =
     tie.close
     (tie.spec
     (λ c κs. search needs)
-    (λ c. search steps)
+    (λ c κs. search needs)
+    (λ c. rw (← (c .before .before .new .ensures)) (search steps))
     (λ c. search needs)
     (λ c. search needs)
     (λ c. search needs)
     (λ c. search needs)
     (λ c κs. search needs)
     (λ c κs. search needs)
-    (λ c. search steps))
+    (λ c. rw (← (c .before .before .before .before .new .ensures)) (search steps)))

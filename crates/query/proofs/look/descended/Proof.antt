@@ -1,7 +1,8 @@
 -- `look::descended` meets its contract. Assumes nothing.
+use lib.Dec.{lit<}
 use borrow.Author.Needs.{needs}
 use Rattle.answers.specs.Steps.{descended}
-use Rattle.query.proofs.Walking.{steps}
+use Rattle.query.proofs.Walking.{steps, got-count}
 use Rattle.query.proofs.look.descended.Statement.{statement}
 use Rattle.query.proofs.look.descended.Tie as tie
 
@@ -14,5 +15,5 @@ descended-spec =
     (λ c. search needs)
     (λ c. search needs)
     (λ c κs. search needs)
-    (λ c κs. search needs)
+    (λ c κs. (search needs, search needs, got-count _ _ _ _ 2 (c .before .read .ensures) (c .before .before .before .before .before .pre .3) (lit< tt)))
     (λ c. search steps))

@@ -1,15 +1,21 @@
 -- `look::kinded` meets its contract. Assumes nothing.
-use mathlib.Core.Path.{sym, _∙_}
+use lib.Dec.{lit≤}
 use borrow.Author.Needs.{needs}
-use Rattle.query.proofs.Walking.{route-answer, route-next}
+use Rattle.answers.specs.Steps.{kinded}
+use Rattle.query.proofs.Behind.{jump-four, jump-long, jump-goes}
+use Rattle.query.proofs.Walking.{steps, le-no}
 use Rattle.query.proofs.look.kinded.Statement.{statement}
 use Rattle.query.proofs.look.kinded.Tie as tie
 
 pub kinded-spec : {M : Type 1} → statement M
+unfolding kinded
 kinded-spec =
     tie.close
     (tie.spec
     (λ c κs. search needs)
-    (λ c. sym (route-answer _ _ _ (c .before .before .routed .result) (c .if1 .taken)) ∙ c .before .before .routed .ensures)
+    (λ c. search steps)
     (λ c κs. search needs)
-    (λ c. c .from-jump .ensures ∙ sym (route-next _ _ _ (c .before .before .before .routed .result) (c .before .if1 .left)) ∙ c .before .before .before .routed .ensures))
+    (λ c κs. (c .before .before .before .before .pre .2, lit≤ tt, jump-four _ _ _ _ _ (c .before .from-jump .ensures), jump-long _ _ _ _ _ (c .before .from-jump .ensures)))
+    (λ c.
+    let jump = c .before .before in
+    le-no _ _ _ _ _ _ _ (jump .before .if1 .left) (jump-goes _ _ _ _ _ (jump .from-jump .ensures) _ _ (c .with-four .ensures))))

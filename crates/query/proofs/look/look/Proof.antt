@@ -13,9 +13,9 @@ look-spec =
     (λ c κs. search needs)
     (λ c κs. search needs)
     (λ c.
-    let opening = c .before .before .before .opened in
-    c .broken .ensures ∙ sym (open-broken _ (opening .result) _ (c .before .if1 .taken)) ∙ opening .ensures .goes _)
-    (λ c κs. c .before .before .opened .ensures .room (c .if1 .left))
+    let count = c .before .before .before .opened in
+    c .broken .ensures ∙ sym (open-broken _ (count .result) _ (c .before .if1 .taken)) ∙ count .ensures .goes _)
+    (λ c κs. let count = c .before .before .opened in (count .ensures .room (c .if1 .left), count .ensures .one (c .if1 .left)))
     (λ c.
-    let opening = c .before .before .before .opened in
-    c .entered .ensures ∙ sym (open-next _ (opening .result) (entered _ _ _) (c .before .if1 .left)) ∙ opening .ensures .goes (entered _ _ _)))
+    let count = c .before .before .before .opened in
+    c .entered .ensures ∙ sym (open-next _ (count .result) (entered _ _ _) (c .before .if1 .left)) ∙ count .ensures .goes (entered _ _ _)))

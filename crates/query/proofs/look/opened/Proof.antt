@@ -1,23 +1,24 @@
 -- `look::opened` meets its contract. Assumes nothing.
-use mathlib.Core.Path.{_≡_, refl}
+use mathlib.Core.Path.{_≡_, refl, ap}
 use borrow.Author.Needs.{needs}
 use denote.Ref.{now}
+use lib.Dec.{lit<}
 use lib.ListN.{length}
-use Rattle.answers.specs.Answers.{answerFrom}
+use Rattle.answers.specs.Answers.{listed, answerFrom}
 use Rattle.answers.specs.Steps.{counted, opened}
 use Rattle.query.specs.Parts.{openFrom}
 use Rattle.query.proofs.Opening.{count-room, count-goes}
-use Rattle.query.proofs.Walking.{steps}
+use Rattle.query.proofs.Walking.{steps, got-count}
 use Rattle.query.proofs.look.opened.Statement.{statement}
 use Rattle.query.proofs.look.opened.Tie as tie
 
 pub opened-spec : {M : Type 1} → statement M
-unfolding opened
+unfolding opened listed
 opened-spec =
     tie.close
     (tie.spec
     (λ c κs. search needs)
-    (λ c. record { room = λ h. absurd (h refl); goes = λ next. rw (c .before .new .ensures) (unfold openFrom in search steps) })
+    (λ c. record { room = λ h. absurd (h refl); one = λ h. absurd (h refl); goes = λ next. rw (c .before .new .ensures) (unfold openFrom in search steps) })
     (λ c κs. search needs)
     (λ c κs. search needs)
     (λ c.
@@ -25,6 +26,7 @@ opened-spec =
     let t = now (c .before .before .before .before .before .before .args .table) in
     record {
       room = rw (c .before .counted .ensures) (count-room t (got .word));
+      one = λ h. got-count got _ _ _ 0 (c .before .before .read .ensures) (ap (λ cs. cs .count) (c .before .before .before .before .new .ensures)) (lit< tt);
       goes = λ next.
           let rest : openFrom t (record { n = c .before .counted .result; cells = got .cells }) next ≡ answerFrom t (got .cells) (counted (length t) (got .word) next) =
           rw (c .before .counted .ensures) (count-goes t (got .cells) (got .word) next) in

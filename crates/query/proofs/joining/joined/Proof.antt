@@ -1,4 +1,4 @@
--- `branching::joined` meets its contract: the loop has pushed the first i cells. Assumes nothing.
+-- `joining::joined` meets its contract: the loop has pushed the first i cells. Assumes nothing.
 use mathlib.Core.Path.{_≡_, refl, sym, ap, _∙_}
 use Prim.Native.Nat.{ℕ, _+_, _-_, _≤_}
 use native.Mathlib.Omega.{arith}
@@ -6,8 +6,8 @@ use lib.ListN.{length, getD, take}
 use borrow.Author.Needs.{needs}
 use Rattle.answers.specs.Answers.{pushed, pushedAll}
 use Rattle.answers.proofs.Answering.{push-next}
-use Rattle.query.proofs.branching.joined.Statement.{statement}
-use Rattle.query.proofs.branching.joined.Tie as tie
+use Rattle.query.proofs.joining.joined.Statement.{statement}
+use Rattle.query.proofs.joining.joined.Tie as tie
 
 abbrev Inv-loop : tie.InvT-loop
 Inv-loop at count all₀ i₀ all i = (i ≤ count) × (count ≤ 15) × (length at ≡ 15) × (all ≡ pushedAll all₀ (take i at))
