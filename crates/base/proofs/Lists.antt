@@ -1,5 +1,5 @@
 -- Laws of `specs/Lists.antt`, and of what stands at a place of a list. Assumes nothing.
-use mathlib.Core.Path.{_≡_, refl, sym, ap, subst, _∙_}
+use mathlib.Core.Path.{_≡_, refl, sym, ap, ap₂, subst, _∙_}
 use mathlib.Core.List.{List, [], _∷_, _++_, map}
 use mathlib.Core.Bool.{Bool, true, false, cond}
 use mathlib.Core.Option.{Option, none, some, Option·none-ne-some}
@@ -175,3 +175,9 @@ module _ {ℓ} {A : Type ℓ} (test : A → Bool) where
   unfolding index
   index-map f [] = refl
   index-map f (x ∷ l) = rw (index-map f l)
+
+-- two rows of the same values
+pub each-same {ℓ} : {A : Type ℓ} (n i : ℕ) (f g : ℕ → A) → ((k : ℕ) → f k ≡ g k) → each n i f ≡ each n i g
+unfolding each
+each-same zero i f g h = refl
+each-same (suc n) i f g h = ap₂ _∷_ (h i) (each-same n (suc i) f g h)

@@ -1,8 +1,7 @@
 // Step 3: within a group, and out of it.
 ghost use mathlib.Core.Path.{_≡_};
-ghost use mathlib.Core.List.{List, []};
 ghost use mathlib.Core.Bool.{Bool};
-ghost use Prim.Native.Nat.{ℕ, _<_, _≤_};
+ghost use Prim.Native.Nat.{ℕ, _<_};
 ghost use lib.ListN.{getD};
 ghost use lib.Dec.{eqb};
 ghost use Rattle.base.specs.Limits.{Sized};
@@ -18,7 +17,7 @@ use answers::Answer;
 use answers::Cells;
 use base::Node;
 use base::Position;
-use shapes::rows;
+use shapes::row;
 
 // KIND of the group's parent, which is not micro: step 4 from there. Six cells were read.
 fn over_group(table: &[u32], n: u32, d: u32, kind: u32, cells: Cells) -> Answer
@@ -80,14 +79,7 @@ fn in_order(table: &[u32], n: u32, local: u32, position: Position, cells: Cells)
 fn reached(row: [u8; 5], k: u32) -> u8
     ensures { λ r. ⌜ r ≡ getD row k 255 ⌝ }
 {
-    match k {
-        0 => row[0],
-        1 => row[1],
-        2 => row[2],
-        3 => row[3],
-        4 => row[4],
-        _ => 255,
-    }
+    if k < 5 { row[k as usize] } else { 255 }
 }
 
 // Within the group where the climbs asked end there, else from the group's parent.
@@ -120,21 +112,7 @@ fn in_group(
     in_order(table, n, to as u32, position, more)
 }
 
-// The row of a local number. Constant places, here and above, let the compiler hold the rows in registers.
-fn row_of(all: [[u8; 5]; 5], local: u32) -> [u8; 5]
-    requires { ⌜ local < 5 ⌝ }
-    ensures { λ r. ⌜ r ≡ getD all local [] ⌝ }
-{
-    match local {
-        0 => all[0],
-        1 => all[1],
-        2 => all[2],
-        3 => all[3],
-        _ => all[4],
-    }
-}
-
-// The shape, and the local number's row in it.
+// The shape, and the local number's row in it: a number that is no shape, or not in its shape, has only 255.
 fn shaped(
     table: &[u32],
     n: u32,
@@ -148,13 +126,7 @@ fn shaped(
     requires { ⌜ (Sized (now table) n) × (group < n) × (d < depth) × (cells .count ≡ 4) ⌝ }
     ensures { λ r. ⌜ r ≡ answerFrom (now (table .entry)) cells (shaped n d depth group local shape) ⌝ }
 {
-    if 23 <= shape {
-        return broken(cells);
-    }
-    if 5 <= local {
-        return broken(cells);
-    }
-    let row = row_of(rows(shape), local);
+    let row = row(shape, local);
     if row[0] == 255 {
         return broken(cells);
     }

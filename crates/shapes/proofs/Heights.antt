@@ -8,7 +8,8 @@ use native.Mathlib.Omega.{arith}
 use native.Mathlib.Nat.{not-suc-le-zero}
 use native.Mathlib.Decide.{ℕ-discrete, decLt}
 use lib.ListN.{length, getD, getElem?, drop, List·getD-eq-default}
-use Rattle.base.proofs.Lists.{below-at, each-length}
+use Rattle.base.specs.Lists.{below}
+use Rattle.base.proofs.Lists.{below-at, each-length, each-same}
 use Rattle.tree.specs.Parents.{topMark, word, depth}
 use Rattle.tree.specs.Parents.{up as climbUp}
 use Rattle.tree.specs.Faults.{Tree}
@@ -143,3 +144,8 @@ row-at L small s l k = go (decLt k L)
     go (no h) =
         List·getD-eq-default (rowOf L s l) 255 (omega (arith, each-length L 0 (λ j. mark (reached L s l j))))
         ∙ sym (ap mark (reached-past L small s l k (inr (omega arith))))
+
+-- a local number from L on has only 255
+pub row-past : (L : ℕ) → L ≤ 255 → (s l : ℕ) → L ≤ l → rowOf L s l ≡ below L (λ k. 255)
+unfolding rowOf
+row-past L small s l h = each-same L 0 (λ k. mark (reached L s l k)) (λ k. 255) (λ k. ap mark (reached-past L small s l k (inl h)))

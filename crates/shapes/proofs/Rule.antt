@@ -13,6 +13,11 @@ use Rattle.shapes.specs.Walks.{Walk, shapes}
 use Rattle.shapes.specs.Climbs.{parentList, reached, mark, rowOf, rowsOf, Says, Rule}
 use Rattle.shapes.proofs.Sizes.{reached-below}
 
+-- a shape's row of a local number
+pub row-is : (L s l : ℕ) → l < L → getD (rowsOf L s) l [] ≡ rowOf L s l
+unfolding rowsOf
+row-is L s l h = below-at L (rowOf L s) [] l h
+
 -- a cell holds the local number that its climb reaches, and 255 where there is none
 pub cell-is : (L s l k : ℕ) → l < L → k < L → getD (getD (rowsOf L s) l []) k 0 ≡ mark (reached L s l k)
 unfolding rowsOf rowOf
