@@ -1,19 +1,17 @@
 -- What a cell of a local number's row tells of its depth in the group. Assumes nothing.
 use mathlib.Core.Path.{_≡_, refl, sym, ap, _∙_}
 use mathlib.Core.Bool.{Bool, true, false, not}
-use mathlib.Core.Option.{Option, none, some, bind}
+use mathlib.Core.Option.{Option, none, some}
 use mathlib.Core.List.{List}
 use Prim.Native.Nat.{ℕ, _-_, _≤_, _<_}
 use native.Mathlib.Omega.{arith}
-use native.Mathlib.Decide.{decLe, decLt}
+use native.Mathlib.Decide.{decLe}
 use lib.ListN.{getD}
 use lib.Dec.{eqb}
 use borrow.Author.Tests.{eq-eqb, ne-eqb}
-use Rattle.base.specs.Limits.{groupLimit, shapeCount}
-use Rattle.base.proofs.Lists.{below-at, at-past}
+use Rattle.base.specs.Limits.{groupLimit}
+use Rattle.base.proofs.Lists.{below-at}
 use Rattle.shapes.specs.Climbs.{reached, localDepth, mark, rowOf}
-use Rattle.shapes.specs.Walks.{shapes}
-use Rattle.shapes.proofs.Rule.{shape-count}
 use Rattle.shapes.proofs.Sizes.{reached-below}
 use Rattle.shapes.proofs.Heights.{reached-some, reached-none, row-at}
 
@@ -36,19 +34,6 @@ module _ (s l : ℕ) (row : List ℕ) (is : row ≡ rowOf groupLimit s l) where
 
   pub inside : (getD row 0 0 ≡ 255 → ⊥) → reached groupLimit s l 0 ≡ none → ⊥
   inside n q = n (first-cell ∙ ap mark q)
-
--- a number that is no shape has nothing that is reached
-pub no-shape : (s l k : ℕ) → shapeCount ≤ s → reached groupLimit s l k ≡ none
-unfolding reached bind
-no-shape s l k h = rw (at-past (shapes groupLimit) s (rw shape-count h))
-
--- so what is reached is in a shape
-pub in-shapes : (s l : ℕ) → (reached groupLimit s l 0 ≡ none → ⊥) → s < shapeCount
-in-shapes s l n = go (decLt s shapeCount)
-  where
-    go : Dec (s < shapeCount) → s < shapeCount
-    go (yes h) = h
-    go (no h) = absurd (n (no-shape s l 0 (omega arith)))
 
 -- a local number that is in its shape is reached by no climb
 pub there : (s l : ℕ) → (reached groupLimit s l 0 ≡ none → ⊥) → (j : ℕ) × (reached groupLimit s l 0 ≡ some j)

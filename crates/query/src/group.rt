@@ -112,7 +112,7 @@ fn in_group(
     in_order(table, n, to as u32, position, more)
 }
 
-// The shape, and the local number's row in it: a number that is no shape, or not in its shape, has only 255.
+// The shape, and the local number's row in it.
 fn shaped(
     table: &[u32],
     n: u32,
@@ -126,6 +126,12 @@ fn shaped(
     requires { ⌜ (Sized (now table) n) × (group < n) × (d < depth) × (cells .count ≡ 4) ⌝ }
     ensures { λ r. ⌜ r ≡ answerFrom (now (table .entry)) cells (shaped n d depth group local shape) ⌝ }
 {
+    if 23 <= shape {
+        return broken(cells);
+    }
+    if 5 <= local {
+        return broken(cells);
+    }
     let row = row(shape, local);
     if row[0] == 255 {
         return broken(cells);
