@@ -9,3 +9,4 @@ pub mod Ladders
 pub mod Room
 pub mod Running
 pub mod Filling
+pub mod TableWords
