@@ -189,3 +189,75 @@ module _ (ps t : List ℕ) (p : Prepared ps t) where
     size-word =
         let z : 4 + 5 * length ps + v ≡ 4 + 3 * length ps + (length ps + (length ps + v)) = omega arith in
         rw z (to-order (length ps + (length ps + v)) (omega arith) ∙ past-order (length ps + v) ∙ past-pre v ∙ in-per (size ps) fromLadders v h)
+
+  -- a word of LADDERS, of a group and of a jump record
+  module _ (i : ℕ) where
+    to-ladders : 4 + 6 * length ps + i < tableWords (length ps) → wordAt t (ladderCell (length ps) i) ≡ getD fromLadders i 0
+    to-ladders b =
+        let n = length ps in
+        let z : 4 + 6 * n + i ≡ 4 + (n + (n + (n + (n + (n + (n + i)))))) = omega arith in
+        rw z (body (n + (n + (n + (n + (n + (n + i)))))) (omega arith) ∙ past-depth (n + (n + (n + (n + (n + i))))) ∙ past-kind (n + (n + (n + (n + i)))) ∙ past-ladpos (n + (n + (n + i))) ∙ past-order (n + (n + i)) ∙ past-pre (n + i) ∙ past-size i)
+
+    pub ladder-word : i < length (flatten (ladders ps)) → wordAt t (ladderCell (length ps) i) ≡ getD (flatten (ladders ps)) i 0
+    unfolding fromLadders rungs
+    ladder-word h =
+        let f = ladders-fit ps small tree in
+        to-ladders (omega arith) ∙ within rungs fromGroups i (omega (arith, rungs-length)) ∙ padded-in (2 * length ps) (flatten (ladders ps)) i h
+
+  to-groups : (i : ℕ) → 4 + 8 * length ps + i < tableWords (length ps) → wordAt t (4 + 8 * length ps + i) ≡ getD fromGroups i 0
+  to-groups i b =
+      let z : 4 + 8 * length ps + i ≡ 4 + 6 * length ps + (2 * length ps + i) = omega arith in
+      rw z (to-ladders (2 * length ps + i) (omega arith) ∙ past-ladders i)
+
+  to-jumps : (i : ℕ) → 4 + 11 * length ps + i < tableWords (length ps) → wordAt t (4 + 11 * length ps + i) ≡ getD records i 0
+  to-jumps i b =
+      let z : 4 + 11 * length ps + i ≡ 4 + 8 * length ps + (3 * length ps + i) = omega arith in
+      rw z (to-groups (3 * length ps + i) (omega arith) ∙ past-groups i)
+
+  -- group g has root r
+  module _ (g r : ℕ) (h : g < length (groupRoots groupLimit ps)) (e : getD (groupRoots groupLimit ps) g 0 ≡ r) where
+    in-group : (k : ℕ) → k < 3 → wordAt t (4 + 8 * length ps + (3 * g + k)) ≡ getD (flatMap (groupWords groupLimit ps) (groupRoots groupLimit ps)) (3 * g + k) 0
+    unfolding fromGroups triples
+    in-group k b =
+        let few = groups-few ps small tree groupLimit in
+        let l = groups-length groupLimit ps in
+        to-groups (3 * g + k) (omega arith)
+        ∙ within triples records (3 * g + k) (omega (arith, triples-length))
+        ∙ padded-in (3 * length ps) _ (3 * g + k) (omega arith)
+
+    pub position-word : wordAt t (positionCell (length ps) g) ≡ position ps r
+    position-word =
+        let z : 4 + 8 * length ps + 3 * g ≡ 4 + 8 * length ps + (3 * g + 0) = omega arith in
+        let y : 3 * g + 0 ≡ 3 * g = omega arith in
+        rw z (in-group 0 (omega arith) ∙ ap (λ i. getD (flatMap (groupWords groupLimit ps) (groupRoots groupLimit ps)) i 0) y ∙ group-position groupLimit ps g r h e)
+
+    pub shape-word : wordAt t (shapeCell (length ps) g) ≡ shapeNumber groupLimit (walkRound (under ps r))
+    shape-word =
+        let z : 4 + 8 * length ps + 3 * g + 1 ≡ 4 + 8 * length ps + (3 * g + 1) = omega arith in
+        rw z (in-group 1 (omega arith) ∙ group-shape groupLimit ps g r h e)
+
+    pub parent-word : wordAt t (parentCell (length ps) g) ≡ Option·getD (parent ps r) topMark
+    parent-word =
+        let z : 4 + 8 * length ps + 3 * g + 2 ≡ 4 + 8 * length ps + (3 * g + 2) = omega arith in
+        rw z (in-group 2 (omega arith) ∙ group-parent groupLimit ps g r h e)
+
+  -- jump node i is j
+  module _ (i j : ℕ) (h : i < length (jumpNodes groupLimit ps)) (e : getD (jumpNodes groupLimit ps) i 0 ≡ j) where
+    in-record : (k : ℕ) → k < 21 → wordAt t (4 + 11 * length ps + (21 * i + k)) ≡ getD (flatMap (jumpRecord ps) (jumpNodes groupLimit ps)) (21 * i + k) 0
+    unfolding records
+    in-record k b =
+        let few = jumps-room ps small tree groupLimit in
+        let l = jumps-length groupLimit ps in
+        to-jumps (21 * i + k) (omega arith) ∙ padded-in (recordWords * jumpRoom (length ps)) _ (21 * i + k) (omega arith)
+
+    pub jump-depth-word : wordAt t (jumpCell (length ps) i) ≡ depth ps j
+    jump-depth-word =
+        let z : 4 + 11 * length ps + 21 * i ≡ 4 + 11 * length ps + (21 * i + 0) = omega arith in
+        let y : 21 * i + 0 ≡ 21 * i = omega arith in
+        rw z (in-record 0 (omega arith) ∙ ap (λ x. getD (flatMap (jumpRecord ps) (jumpNodes groupLimit ps)) x 0) y ∙ jump-depth groupLimit ps i j h e)
+
+    pub ancestor-word : (k : ℕ) → k < 20 → wordAt t (ancestorCell (length ps) i k) ≡ Option·getD (up ps (2 ^ k) j) 0
+    ancestor-word k b =
+        let z : 4 + 11 * length ps + 21 * i + 1 + k ≡ 4 + 11 * length ps + (21 * i + (1 + k)) = omega arith in
+        let y : 21 * i + (1 + k) ≡ 21 * i + 1 + k = omega arith in
+        rw z (in-record (1 + k) (omega arith) ∙ ap (λ x. getD (flatMap (jumpRecord ps) (jumpNodes groupLimit ps)) x 0) y ∙ jump-ancestor groupLimit ps i j h e k b)
