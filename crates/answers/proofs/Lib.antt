@@ -4,3 +4,5 @@ pub mod Bounds
 pub mod Exponent
 pub mod Answering
 pub mod Numbers
+pub mod Runs
+pub mod Known

@@ -10,3 +10,4 @@ pub mod Room
 pub mod Running
 pub mod Filling
 pub mod TableWords
+pub mod Leaps
