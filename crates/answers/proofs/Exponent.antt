@@ -42,6 +42,11 @@ exponent-iff x e small = (
     low (yes b) h = omega arith
     low (no b) h = absurd (omega (arith, pow-mono {i = 32} {j = e} (omega arith), h .0))
 
+pub exponent-some : (x : ℕ) → 1 ≤ x → x < 2 ^ 32 → (e : ℕ) × (exponent x ≡ some e)
+exponent-some x h small =
+    let (e, b, lo, hi) = leading-top 32 x h small in
+    (e, exponent-iff x e small .1 (lo, hi))
+
 pub exponent-none : (x : ℕ) → x < 2 ^ 32 → (exponent x ≡ none) ↔ (x ≡ 0)
 unfolding exponent
 exponent-none x small = (
@@ -52,8 +57,8 @@ exponent-none x small = (
     zero-of : exponent x ≡ none → Dec (x ≡ 0) → x ≡ 0
     zero-of q (yes z) = z
     zero-of q (no z) =
-        let (j, e, lo, hi) = leading-top 32 x (omega arith) small in
-        absurd (Option·none-ne-some j (sym q ∙ exponent-iff x j small .1 (lo, hi)))
+        let (e, s) = exponent-some x (omega arith) small in
+        absurd (Option·none-ne-some e (sym q ∙ s))
 
 -- the power is not above the number, and the exponent of a number below 2^k is below k
 pub exponent-low : (k x e : ℕ) → k ≤ 32 → x < 2 ^ k → exponent x ≡ some e → (e < k) × (2 ^ e ≤ x)

@@ -11,3 +11,4 @@ pub mod Running
 pub mod Filling
 pub mod TableWords
 pub mod Leaps
+pub mod Levels
