@@ -12,3 +12,4 @@ pub mod Filling
 pub mod TableWords
 pub mod Leaps
 pub mod Levels
+pub mod Questions

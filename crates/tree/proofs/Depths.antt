@@ -125,7 +125,7 @@ module _ (ps : List ℕ) (small : length ps ≤ topMark) where
         rw (climb-parent v p q) (climb-at k p u r)
 
     -- the function is 003's level ancestor, and defined up to the depth
-    level-in : (v d : ℕ) → d ≤ depth ps v → levelAncestor ps v d ≡ up ps (depth ps v - d) v
+    pub level-in : (v d : ℕ) → d ≤ depth ps v → levelAncestor ps v d ≡ up ps (depth ps v - d) v
     unfolding levelAncestor
     level-in v d h = rw (le-leb d (depth ps v) h)
 

@@ -3,3 +3,4 @@ pub mod Parents
 pub mod Forest
 pub mod Level
 pub mod Faults
+pub mod Questions
