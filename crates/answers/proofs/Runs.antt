@@ -5,7 +5,7 @@ use mathlib.Core.Option.{Option, some, Option·elim}
 use Prim.Native.Nat.{ℕ, _≤_, _<_}
 use borrow.Author.Tests.{le-leb, lt-leb, lt-ltb, le-ltb, eq-eqb, ne-eqb}
 use Rattle.base.specs.Numbers.{Outcome}
-use Rattle.answers.specs.Reading.{Reading, done, read, ifLe, ifLt, ifEq, ifNone, wordAt, run}
+use Rattle.answers.specs.Reading.{Reading, done, read, ifLe, ifLt, ifEq, ifNone, andThen, wordAt, run}
 
 module _ (t : List ℕ) (o : Outcome) where
   pub run-done : run t (done o) ≡ o
@@ -44,5 +44,11 @@ module _ (t : List ℕ) (o : Outcome) where
     pub run-not-eq : (a ≡ b → ⊥) → run t q ≡ o → run t (ifEq a b p q) ≡ o
     unfolding ifEq
     run-not-eq h e = rw (ne-eqb a b h) e
+
+-- a program, and then what f makes of its outcome
+pub run-then : (t : List ℕ) (p : Reading) (f : Outcome → Reading) → run t (andThen p f) ≡ run t (f (run t p))
+unfolding andThen run
+run-then t (done o) f = refl
+run-then t (read cell k) f = run-then t (k (wordAt t cell)) f
 
 pub ruleset runs = (run-done, run-read, run-some, run-le, run-not-le, run-lt, run-not-lt, run-eq, run-not-eq)

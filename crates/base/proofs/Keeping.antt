@@ -1,7 +1,8 @@
--- Laws of `keep`, `index`, `every` and `has`: what passes a test, and where the first stands that does. Assumes nothing.
+-- Laws of `keep`, `first`, `index`, `every` and `has`: what passes a test, and where the first stands that does. Assumes nothing.
 use mathlib.Core.Path.{_≡_, refl, sym, ap, _∙_}
 use mathlib.Core.List.{List, [], _∷_, _++_}
 use mathlib.Core.Bool.{Bool, true, false, cond}
+use mathlib.Core.Option.{none, some}
 use Prim.Native.Nat.{ℕ, suc, _+_, _≤_, _<_}
 use native.Mathlib.Omega.{arith}
 use native.Mathlib.Nat.{add-zero}
@@ -10,7 +11,7 @@ use lib.ListN.{length, getD, take, drop}
 use lib.Seq.{split-at}
 use lib.Dec.{eqb}
 use borrow.Author.Tests.{eqb-true, ne-eqb}
-use Rattle.base.specs.Lists.{keep, index, every, some?, has}
+use Rattle.base.specs.Lists.{keep, first, index, every, some?, has}
 use Rattle.base.proofs.Lists.{clash, All, index-past}
 use Rattle.base.proofs.Counts.{one, times}
 use Rattle.base.proofs.Places.{times-same, times-other}
@@ -138,3 +139,24 @@ has-not l x n = go (has l x) refl
 
 pub has-no : (l : List ℕ) (x : ℕ) → times x l ≡ 0 → has l x ≡ false
 has-no l x h = has-not l x (λ k. omega arith)
+
+-- the first that passes, where one alone passes or none does
+module _ (test : ℕ → Bool) where
+  pub first-only : (l : List ℕ) (x : ℕ) → 1 ≤ times x l → test x ≡ true → ((y : ℕ) → 1 ≤ times y l → test y ≡ true → y ≡ x) → first test l ≡ some x
+  unfolding first times
+  first-only [] x h t only = absurd (omega arith)
+  first-only (y ∷ l) x h t only = go (test y) refl (ℕ-discrete x y) (λ k. first-only l x k t (λ z i. only z (omega arith)))
+    where
+      go : (b : Bool) → test y ≡ b → Dec (x ≡ y) → (1 ≤ times x l → first test l ≡ some x) → cond b (some y) (first test l) ≡ some x
+      go true e d ih = ap some (only y (omega (arith, times-same y y l refl)) e)
+      go false e (yes q) ih = clash (sym e ∙ ap test (sym q) ∙ t)
+      go false e (no q) ih = ih (omega (arith, times-other x y l q))
+
+  pub first-nothing : (l : List ℕ) → ((y : ℕ) → 1 ≤ times y l → test y ≡ true → ⊥) → first test l ≡ none
+  unfolding first times
+  first-nothing [] no-one = refl
+  first-nothing (y ∷ l) no-one = go (test y) refl (first-nothing l (λ z i. no-one z (omega arith)))
+    where
+      go : (b : Bool) → test y ≡ b → first test l ≡ none → cond b (some y) (first test l) ≡ none
+      go true e ih = absurd (no-one y (omega (arith, times-same y y l refl)) e)
+      go false e ih = ih

@@ -1,26 +1,31 @@
 -- On a prepared table each question answers what it means: the climb from parent to parent. Assumes nothing.
 use mathlib.Core.Path.{_≡_, refl, sym, ap, _∙_}
+use mathlib.Core.Logic.{_↔_}
 use mathlib.Core.List.{List}
 use mathlib.Core.Bool.{Bool, true, false, cond}
 use mathlib.Core.Option.{Option, none, some, Option·elim}
-use Prim.Native.Nat.{ℕ, _+_, _-_, _*_, _≤_, _<_}
+use Prim.Native.Nat.{ℕ, suc, _+_, _-_, _*_, _≤_, _<_}
 use native.Mathlib.Omega.{arith}
-use native.Mathlib.Decide.{decLe}
+use native.Mathlib.Decide.{ℕ-discrete, decLe, decLt}
 use lib.ListN.{length}
 use lib.Dec.{leb}
 use borrow.Author.Tests.{le-leb, lt-leb}
-use Rattle.base.specs.Numbers.{Outcome, accepted, unknown, tooDeep}
-use Rattle.base.specs.Limits.{tableWords, depthCell}
-use Rattle.tree.specs.Parents.{up, depth}
-use Rattle.tree.specs.Level.{levelAncestor}
-use Rattle.tree.specs.Questions.{known, classOf, climbOf}
-use Rattle.tree.proofs.Depths.{up-some, up-none, level-in, level-deep}
-use Rattle.tree.proofs.Intervals.{depth-less}
+use Rattle.base.specs.Numbers.{Outcome, accepted, unknown, tooDeep, notAbove}
+use Rattle.base.specs.Lists.{first, has}
+use Rattle.base.specs.Limits.{tableWords, depthCell, preCell, sizeCell}
+use Rattle.base.proofs.Keeping.{times-has, has-not}
+use Rattle.tree.specs.Parents.{up, climb, depth, children}
+use Rattle.tree.specs.Forest.{size, position}
+use Rattle.tree.specs.Level.{Ancestor, levelAncestor}
+use Rattle.tree.specs.Questions.{known, classOf, climbOf, ancestryOf, branchOf}
+use Rattle.tree.proofs.Depths.{up-some, up-none, level-in, level-deep, level-defined}
+use Rattle.tree.proofs.Intervals.{depth-less, interval}
+use Rattle.tree.proofs.Ancestry.{on-climb, towards, towards-none, strictly-deeper}
 use Rattle.table.specs.Preparing.{Prepared}
-use Rattle.answers.specs.Reading.{Reading, done, read, ifLe, ifLt, run}
-use Rattle.answers.specs.Steps.{counted, opened, descended, wanted, deep, entered, level, climbing, rating}
-use Rattle.answers.proofs.Runs.{run-done, run-read, run-le, run-not-le, run-lt, run-not-lt, run-not-eq}
-use Rattle.climbs.proofs.TableWords.{many, few, tree, small, count-word, depth-word}
+use Rattle.answers.specs.Reading.{Reading, done, read, ifLe, ifLt, ifEq, run}
+use Rattle.answers.specs.Steps.{counted, opened, descended, wanted, deep, entered, level, climbing, rating, compared, related, ancestry, inside, deeper, strictly, branch}
+use Rattle.answers.proofs.Runs.{run-done, run-read, run-le, run-not-le, run-lt, run-not-lt, run-eq, run-not-eq, run-then}
+use Rattle.climbs.proofs.TableWords.{many, few, tree, small, count-word, depth-word, pre-word, size-word}
 use Rattle.climbs.proofs.Levels.{descended-run}
 
 module _ (ps t : List ℕ) (p : Prepared ps t) where
@@ -81,3 +86,76 @@ module _ (ps t : List ℕ) (p : Prepared ps t) where
       entered-run v k true (up ps k v)
       (λ h b. up-none ps (small ps t p) (tree ps t p) k v b)
       (λ h b. let z : depth ps v - (depth ps v - k) ≡ k = omega arith in (omega arith, ap (λ j. up ps j v) z))
+
+  -- the reads of ancestry tell whether u is an ancestor of v
+  module _ (u v : ℕ) (o : Outcome) (above : ℕ → Reading) (apart : Reading) (hu : u < length ps) (hv : v < length ps) where
+    compared-run : (Ancestor ps u v → run t (above (length ps)) ≡ o) → ((Ancestor ps u v → ⊥) → run t apart ≡ o)
+        → run t (compared (above (length ps)) apart (position ps u) (size ps u) (position ps v)) ≡ o
+    unfolding compared
+    compared-run is not = go (decLe (position ps u) (position ps v)) (decLt (position ps v) (position ps u + size ps u))
+      where
+        iff : Ancestor ps u v ↔ ((position ps u ≤ position ps v) × (position ps v < position ps u + size ps u))
+        iff = interval ps (small ps t p) (tree ps t p) u v hu hv
+
+        go : Dec (position ps u ≤ position ps v) → Dec (position ps v < position ps u + size ps u)
+            → run t (ifLe (position ps u) (position ps v) (ifLt (position ps v) (position ps u + size ps u) (above (length ps)) apart) apart) ≡ o
+        go (yes a) (yes b) = run-le t o _ _ _ _ a (run-lt t o _ _ _ _ b (is (iff .1 (a, b))))
+        go (yes a) (no b) = run-le t o _ _ _ _ a (run-not-lt t o _ _ _ _ (omega arith) (not (λ x. b (iff .0 x .1))))
+        go (no a) b = run-not-le t o _ _ _ _ (omega arith) (not (λ x. a (iff .0 x .0)))
+
+  related-run : (u v : ℕ) (o : Outcome) (above : ℕ → Reading) (apart : Reading)
+      → (u < length ps → v < length ps → Ancestor ps u v → run t (above (length ps)) ≡ o)
+      → (u < length ps → v < length ps → (Ancestor ps u v → ⊥) → run t apart ≡ o)
+      → run t (opened (length t) (related u v above apart)) ≡ known ps u (known ps v o)
+  unfolding related
+  related-run u v o above apart is not =
+      opened-run _ (related u v above apart)
+      (known-run u (known ps v o) _ (λ hu.
+      known-run v o _ (λ hv.
+      run-read t o (preCell (length ps) u) (position ps u) _ (pre-word ps t p u hu)
+      (run-read t o (sizeCell (length ps) u) (size ps u) _ (size-word ps t p u hu)
+      (run-read t o (preCell (length ps) v) (position ps v) _ (pre-word ps t p v hv)
+      (compared-run u v o above apart hu hv (is hu hv) (not hu hv)))))))
+
+  -- ancestry: whether u is on v's climb
+  pub ancestry-right : (u v : ℕ) → run t (ancestry (length t) u v) ≡ ancestryOf ps u v
+  unfolding ancestry ancestryOf
+  ancestry-right u v =
+      related-run u v (accepted (cond (has (climb ps v) u) 1 0)) (λ n. done (accepted 1)) (done (accepted 0))
+      (λ hu hv a. rw (on-climb ps (small ps t p) (tree ps t p) u v hv .1 a) (run-done t (accepted 1)))
+      (λ hu hv n. rw (has-not (climb ps v) u (λ k. n (on-climb ps (small ps t p) (tree ps t p) u v hv .0 (times-has (climb ps v) u k)))) (run-done t (accepted 0)))
+
+  -- branch: the child of u on the way to v
+  module _ (u v : ℕ) (hu : u < length ps) (hv : v < length ps) where
+    abbrev child : Outcome
+    child = Option·elim (first (has (climb ps v)) (children ps u)) (notAbove u) accepted
+
+    none-run : (Ancestor ps u v → u ≡ v) → run t (done (notAbove u)) ≡ child
+    unfolding Option·elim
+    none-run only = rw (towards-none ps (small ps t p) (tree ps t p) u v hu hv only) (run-done t (notAbove u))
+
+    deeper-run : Ancestor ps u v → (u ≡ v → ⊥) → run t (deeper (length t) v (length ps) (depth ps u)) ≡ child
+    unfolding deeper classOf inside Option·elim
+    deeper-run a other =
+        let z = strictly-deeper ps (small ps t p) (tree ps t p) u v a other in
+        let (c, e) = level-defined ps (small ps t p) (tree ps t p) v (depth ps u + 1) hv (omega arith) in
+        let y : depth ps u + 1 ≡ suc (depth ps u) = omega arith in
+        let found : run t (level (length t) v (depth ps u + 1)) ≡ accepted c = level-right v (depth ps u + 1) ∙ rw (lt-leb (length ps) v hv, e) in
+        rw (towards ps (small ps t p) (tree ps t p) u v c a (ap (levelAncestor ps v) (sym y) ∙ e))
+        (run-not-le t (accepted c) (length ps) (depth ps u) _ _ (depth-less ps (small ps t p) (tree ps t p) u hu)
+        (run-then t (level (length t) v (depth ps u + 1)) inside ∙ ap (λ o. run t (inside o)) found ∙ run-not-eq t (accepted c) 0 8 _ _ (λ q. omega arith) (run-done t (accepted c))))
+
+    strictly-run : Ancestor ps u v → run t (strictly (length t) u v (length ps)) ≡ child
+    unfolding strictly
+    strictly-run a = go (ℕ-discrete u v)
+      where
+        go : Dec (u ≡ v) → run t (ifEq u v (done (notAbove u)) (read (depthCell (length ps) u) (deeper (length t) v (length ps)))) ≡ child
+        go (yes z) = run-eq t _ u v _ _ z (none-run (λ b. z))
+        go (no z) = run-not-eq t _ u v _ _ z (run-read t _ (depthCell (length ps) u) (depth ps u) _ (depth-word ps t p u hu) (deeper-run a z))
+
+  pub branch-right : (u v : ℕ) → run t (branch (length t) u v) ≡ branchOf ps u v
+  unfolding branch branchOf
+  branch-right u v =
+      related-run u v _ (strictly (length t) u v) (done (notAbove u))
+      (λ hu hv a. strictly-run u v hu hv a)
+      (λ hu hv n. none-run u v hu hv (λ a. absurd (n a)))

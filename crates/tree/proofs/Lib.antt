@@ -7,4 +7,5 @@ pub mod Forests
 pub mod Levels
 pub mod Positions
 pub mod Intervals
+pub mod Ancestry
 pub mod Theorems
