@@ -28,6 +28,10 @@ pushedAll cs (x ∷ xs) = pushedAll (pushed cs x) xs
 unfoldable pub listed : List ℕ → Cells
 listed xs = record { at = padded 15 xs; count = length xs }
 
+-- an answer without its cells
+abbrev pub outcome : Answer → Outcome
+outcome r = record { number = r .number; word = r .word }
+
 -- the answer of a program on a table
 unfoldable pub answerTo : List ℕ → Reading → Answer
 answerTo t p = record { number = run t p .number; word = run t p .word; cells = listed (trace t p) }

@@ -4,6 +4,7 @@ use borrow.Author.Needs.{needs}
 use Rattle.answers.specs.Steps.{climbing}
 use Rattle.answers.proofs.Bounds.{climbing-within}
 use Rattle.answers.proofs.Numbers.{climbing-numbers}
+use Rattle.climbs.proofs.Questions.{climb-right}
 use Rattle.query.proofs.Promises.{promised}
 use Rattle.query.proofs.climb.Statement.{statement}
 use Rattle.query.proofs.climb.Tie as tie
@@ -14,4 +15,4 @@ climb-spec =
     tie.close
     (tie.spec
     (λ c κs. search needs)
-    (λ c. let args = c .before .before .args in promised _ (λ len. climbing len (args .v .0) (args .k)) _ _ _ (λ len. climbing-within len _ _) (λ len. climbing-numbers len _ _) (lit≤ tt) (c .look .ensures)))
+    (λ c. let args = c .before .before .args in promised _ (λ len. climbing len (args .v .0) (args .k)) _ _ _ (λ len. climbing-within len _ _) (λ len. climbing-numbers len _ _) _ (λ ps d. climb-right ps _ d (args .v .0) (args .k)) (lit≤ tt) (c .look .ensures)))

@@ -4,6 +4,7 @@ use borrow.Author.Needs.{needs}
 use Rattle.answers.specs.Steps.{level}
 use Rattle.answers.proofs.Bounds.{level-within}
 use Rattle.answers.proofs.Numbers.{level-numbers}
+use Rattle.climbs.proofs.Questions.{level-right}
 use Rattle.query.proofs.Promises.{promised}
 use Rattle.query.proofs.level.Statement.{statement}
 use Rattle.query.proofs.level.Tie as tie
@@ -14,4 +15,4 @@ level-spec =
     tie.close
     (tie.spec
     (λ c κs. search needs)
-    (λ c. let args = c .before .before .args in promised _ (λ len. level len (args .v .0) (args .d)) _ _ _ (λ len. level-within len _ _) (λ len. level-numbers len _ _) (lit≤ tt) (c .look .ensures)))
+    (λ c. let args = c .before .before .args in promised _ (λ len. level len (args .v .0) (args .d)) _ _ _ (λ len. level-within len _ _) (λ len. level-numbers len _ _) _ (λ ps d. level-right ps _ d (args .v .0) (args .d)) (lit≤ tt) (c .look .ensures)))
