@@ -8,4 +8,5 @@ pub mod Levels
 pub mod Positions
 pub mod Intervals
 pub mod Ancestry
+pub mod Meanings
 pub mod Theorems
