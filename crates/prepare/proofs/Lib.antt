@@ -1,0 +1,4 @@
+-- Laws of the working space.
+pub mod Chains
+pub mod Searches
+pub mod Views

@@ -1,0 +1,2 @@
+-- The regions of the working space, and what they hold.
+pub mod Regions

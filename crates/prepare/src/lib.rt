@@ -1,0 +1,4 @@
+// Judging a parent list on a lent working space of 6n words, and preparing its table.
+mod link;
+mod stray;
+mod words;
