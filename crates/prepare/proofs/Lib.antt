@@ -1,4 +1,5 @@
 -- Laws of the working space.
 pub mod Chains
+pub mod Pending
 pub mod Searches
 pub mod Views

@@ -4,7 +4,7 @@ use mathlib.Core.List.{List, [], _∷_, _++_, append-assoc}
 use Prim.Native.Nat.{ℕ, zero, suc, _+_, _-_, _≤_, _<_}
 use native.Mathlib.Omega.{arith}
 use native.Mathlib.Numerals.{add-one}
-use lib.ListN.{length, getD, take, drop, set, length-append, length-take, length-drop, take-append-drop}
+use lib.ListN.{length, getD, take, drop, set, replicate, length-replicate, getD-replicate, length-append, length-take, length-drop, take-append-drop}
 use lib.Seq.{getD-take, getD-drop, take-set-le, take-set-lt, drop-set-lt, drop-set-add, take-suc-set, drop-append-le, take-append-le, drop-at, take-at, drop-cons, set-append-seam}
 use Rattle.prepare.specs.Regions.{view}
 
@@ -76,3 +76,7 @@ laid-more {old} {w} {new} {n} x h l =
       fits = omega arith;
       is = rw (e, l .is, drop-cons old n 0 h, ← l .size, set-append-seam, append-assoc);
     }
+
+-- what stands in a part that was filled
+pub filled-at : (l : List ℕ) (n x v : ℕ) → l ≡ replicate n x → v < length l → getD l v 0 ≡ x
+filled-at l n x v e h = rw e (getD-replicate n v x 0 (omega (arith, ap length e, length-replicate n x)))

@@ -1,4 +1,5 @@
 // Judging a parent list on a lent working space of 6n words, and preparing its table.
 mod link;
 mod stray;
+mod walk;
 mod words;

@@ -1,6 +1,7 @@
 -- `words::clear` meets its contract. Assumes nothing.
 use mathlib.Core.Path.{_≡_, ap, ap₂, _∙_}
 use mathlib.Core.List.{_++_}
+use Prim.Native.Nat.{_-_}
 use lib.ListN.{replicate}
 use native.Mathlib.Omega.{arith}
 use borrow.Rule.Slice.PartMut.{mid-len, post-is}
@@ -20,4 +21,5 @@ clear-spec =
     (λ c.
     let s = c .before .before .before .before .before in
     let xs = s .args .space .now in
-    ap₂ _++_ (c .before .before .fill .ensures ∙ ap (λ n. replicate n 0) (mid-len 0 (s .args .m) xs (s .pre))) (post-is 0 (s .args .m) xs (omega arith))))
+    let z : s .args .m - 0 ≡ s .args .m = omega arith in
+    ap₂ _++_ (c .before .before .fill .ensures ∙ ap (λ n. replicate n 0) (mid-len 0 (s .args .m) xs (s .pre) ∙ z)) (post-is 0 (s .args .m) xs (omega arith))))
