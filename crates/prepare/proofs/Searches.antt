@@ -4,13 +4,13 @@ use mathlib.Core.Logic.{_⊎_, inl, inr}
 use mathlib.Core.List.{List}
 use mathlib.Core.Bool.{Bool, true, false, not, _||_}
 use mathlib.Core.Option.{Option, none, some}
-use Prim.Native.Nat.{ℕ, _+_, _≤_, _<_}
+use Prim.Native.Nat.{ℕ, zero, suc, _+_, _≤_, _<_}
 use native.Mathlib.Omega.{arith}
 use native.Mathlib.Decide.{ℕ-discrete, decLt}
 use lib.ListN.{length}
 use lib.Dec.{eqb, ltb}
 use borrow.Author.Tests.{eqb-true, ltb-true, eq-eqb, ne-eqb, lt-ltb, le-ltb, not-false}
-use Rattle.base.specs.Lists.{below, first}
+use Rattle.base.specs.Lists.{each, below, first}
 use Rattle.base.proofs.Lists.{first-is, none-first, first-none, first-some}
 use Rattle.tree.specs.Parents.{topMark, word}
 use Rattle.tree.specs.Faults.{isStray}
@@ -55,6 +55,12 @@ module _ (test : ℕ → Bool) (n : ℕ) where
       go : (o : Option ℕ) → found ≡ o → r ≡ orAll o n → found ≡ none
       go none q e = q
       go (some v) q e = absurd (omega (arith, first-some test n 0 v q .1))
+
+-- two tests that agree find the same
+pub first-same : (f g : ℕ → Bool) (n i : ℕ) → ((v : ℕ) → v < i + n → f v ≡ g v) → first f (each n i (λ v. v)) ≡ first g (each n i (λ v. v))
+unfolding first each
+first-same f g zero i h = refl
+first-same f g (suc n) i h = rw (h i (omega arith), first-same f g n (suc i) (λ v b. h v (omega arith)))
 
 -- a word that is an entry or the top mark is not stray, and any other is
 module _ (ps : List ℕ) where

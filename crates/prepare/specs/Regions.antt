@@ -2,11 +2,13 @@
 use mathlib.Core.Path.{_≡_}
 use mathlib.Core.Logic.{_⊎_}
 use mathlib.Core.List.{List, [], _∷_}
+use mathlib.Core.Bool.{cond}
 use mathlib.Core.Option.{Option, none, some}
 use Prim.Native.Nat.{ℕ, suc, _*_, _≤_, _<_}
 use lib.ListN.{length, getD, take, drop}
 use Rattle.base.specs.Lists.{places}
 use Rattle.tree.specs.Parents.{topMark, word}
+use Rattle.tree.specs.Faults.{meetsTop}
 
 -- the number found, or n where there is none
 abbrev pub orAll : Option ℕ → ℕ → ℕ
@@ -45,3 +47,7 @@ pub record Linked (ps : List ℕ) (i : ℕ) (head next : List ℕ) (r : ℕ) : T
   pub heads : (v : ℕ) → v < length ps → getD head v 0 ≡ firstOf (from ps i v)
   pub nexts : (j : ℕ) → i ≤ j → j < length ps → getD next j 0 ≡ firstOf (after ps j)
   pub tops : r ≡ firstOf (from ps i topMark)
+
+-- `marks` has 1 for each entry whose climb meets the top, and else 0
+abbrev pub Marked : List ℕ → List ℕ → Type 0
+Marked ps marks = (v : ℕ) → v < length ps → getD marks v 0 ≡ cond (meetsTop ps v) 1 0
