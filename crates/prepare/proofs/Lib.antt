@@ -3,4 +3,5 @@ pub mod Chains
 pub mod Marking
 pub mod Pending
 pub mod Searches
+pub mod Verdicts
 pub mod Views
