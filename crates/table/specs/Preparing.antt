@@ -56,3 +56,17 @@ pub record Prepared (ps table : List ℕ) : Type 0 where
   pub accepts : Accepted ps
   pub long : tableWords (length ps) ≤ length table
   pub words : take (tableWords (length ps)) table ≡ tableOf ps
+
+-- judging alone: 1 and 3, for n entries and the length of the space
+unfoldable pub lendFault : ℕ → ℕ → Option Outcome
+lendFault n spaceLen = orElse (countFault n) (spaceFault n spaceLen)
+
+-- its answer: 1, 3, 4, 5, 6 in that order; acceptance is number 0 and names n
+unfoldable pub judging : List ℕ → ℕ → Outcome
+judging ps spaceLen = Option·elim (orElse (lendFault (length ps) spaceLen) (listFault ps)) (accepted (length ps)) (λ o. o)
+
+-- the space after judging: 1 and 3 leave it unchanged; after any other answer its first 6n words are zero, and those beyond unchanged
+unfoldable pub judgedSpace : List ℕ → List ℕ → List ℕ
+judgedSpace ps space =
+    let m = spaceWords (length ps) in
+    Option·elim (lendFault (length ps) (length space)) (replicate m 0 ++ drop m space) (λ o. space)

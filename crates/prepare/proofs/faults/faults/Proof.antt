@@ -1,0 +1,112 @@
+-- `faults::faults` meets its contract. Assumes nothing.
+use mathlib.Core.Path.{_≡_, _∙_}
+use mathlib.Core.List.{List}
+use mathlib.Core.Option.{none}
+use Prim.Native.Nat.{ℕ, _+_, _*_, _≤_}
+use native.Mathlib.Omega.{arith}
+use borrow.Author.Needs.{needs}
+use lib.ListN.{length}
+use Rattle.base.specs.Numbers.{accepted, stray, tops, loop}
+use Rattle.tree.specs.Parents.{topMark, children}
+use Rattle.tree.specs.Faults.{lowest, isStray}
+use Rattle.tree.proofs.Forests.{order-short}
+use Rattle.prepare.specs.Regions.{after, firstOf}
+use Rattle.prepare.proofs.Searches.{found-some, found-none, no-stray}
+use Rattle.prepare.proofs.Verdicts.{says, verdict-stray, verdict-none, verdict-two, verdict-loop, verdict-whole}
+use Rattle.prepare.proofs.Views.{view-at}
+use Rattle.prepare.proofs.faults.faults.Statement.{statement}
+use Rattle.prepare.proofs.faults.faults.Tie as tie
+
+abbrev start : tie.After-first-stray → tie.Start
+start f = f .before .before .before
+
+abbrev listed : tie.After-first-stray → List ℕ
+listed f = start f .args .parents .now
+
+fine : (c : tie.Else1) → lowest (listed (c .before)) (isStray (listed (c .before))) ≡ none
+fine c = found-none (isStray (listed (c .before))) (length (listed (c .before))) (c .before .first-stray .result) (c .before .first-stray .ensures) (c .if1 .left)
+
+abbrev checked : tie.After-wide → tie.Else1
+checked w = w .before .before .before .before .before
+
+abbrev list : tie.After-wide → List ℕ
+list w = listed (checked w .before)
+
+tiny : (w : tie.After-wide) → length (list w) ≤ topMark
+tiny w = omega (arith, start (checked w .before) .pre .0)
+
+first-is : (w : tie.After-wide) → w .wide .result ≡ firstOf (children (list w) topMark)
+first-is w = w .wide .ensures ∙ w .before .before .before .link .ensures .tops
+
+abbrev topped : tie.After-wide2 → tie.After-wide
+topped x = x .before .before .before
+
+next-is : (x : tie.After-wide2) → x .wide2 .result ≡ firstOf (after (list (topped x)) (topped x .wide .result))
+next-is x =
+    let w = topped x in
+    let l = w .before .before .before .link in
+    x .wide2 .ensures
+    ∙ view-at (3 * length (list w)) (length (list w)) (l .last .1 .0) (w .wide .result) (length (list w) * 3 + w .wide .result) (omega arith) (omega arith)
+    ∙ l .ensures .nexts (w .wide .result) (omega arith) (omega arith)
+
+returns : tie.Need-returns
+returns c =
+    let f = c .before in
+    let ps = listed f in
+    says _ (stray (f .first-stray .result)) (verdict-stray ps (omega arith) (f .first-stray .result) (found-some (isStray ps) (length ps) (f .first-stray .result) (f .first-stray .ensures) (c .if1 .taken)))
+
+returns-2 : tie.Need-returns-2
+returns-2 c =
+    let w = c .before in
+    says _ (tops (length (list w))) (verdict-none (list w) (tiny w) (fine (checked w)) (w .wide .result) (first-is w) (c .if2 .taken))
+
+returns-3 : tie.Need-returns-3
+returns-3 c =
+    let x = c .before in
+    let w = topped x in
+    says _ (tops (x .wide2 .result)) (verdict-two (list w) (tiny w) (fine (checked w)) (w .wide .result) (first-is w) (x .before .before .if2 .left) (x .wide2 .result) (next-is x) (c .if3 .taken))
+
+returns-4 : tie.Need-returns-4
+returns-4 c =
+    let y = c .before .before in
+    let o = y .before .before .before .before .before .before .before in
+    let x = o .before in
+    let w = topped x in
+    says _ (loop (y .first-lost .result)) (verdict-loop (list w) (tiny w) (fine (checked w)) (w .wide .result) (first-is w) (x .before .before .if2 .left) (x .wide2 .result) (next-is x) (o .if3 .left) (y .first-lost .result) (y .first-lost .ensures .1))
+
+returns-5 : tie.Need-returns-5
+returns-5 c =
+    let k = c .before .before .before in
+    let o = k .before .before in
+    let x = o .before in
+    let w = topped x in
+    says _ (accepted (length (list w))) (verdict-whole (list w) (tiny w) (fine (checked w)) (w .wide .result) (first-is w) (x .before .before .if2 .left) (x .wide2 .result) (next-is x) (o .if3 .left) (k .walk .result) (k .walk .ensures .0) (order-short (list w) (tiny w)) (c .if4 .left))
+
+pub faults-spec : {M : Type 1} → statement M
+faults-spec =
+    tie.close
+    (tie.spec
+    (λ c κs. search needs)
+    (λ c. search needs)
+    returns
+    (λ c κs. let s = start (c .before .before) in (s .pre .0, s .pre .1, no-stray (s .args .parents .now) (fine (c .before))))
+    (λ c κs. search needs)
+    (λ c. search needs)
+    (λ c. search needs)
+    returns-2
+    (λ c. search needs)
+    (λ c. search needs)
+    (λ c. search needs)
+    (λ c. search needs)
+    (λ c κs. search needs)
+    (λ c. search needs)
+    (λ c. search needs)
+    returns-3
+    (λ c κs. search needs)
+    (λ c κs. search needs)
+    (λ c. search needs)
+    (λ c. search needs)
+    returns-4
+    (λ c. search needs)
+    (λ c. search needs)
+    returns-5)

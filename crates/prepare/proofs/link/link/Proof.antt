@@ -1,0 +1,127 @@
+-- `link::link` meets its contract. The entries from i on are linked. Assumes nothing.
+use mathlib.Core.Path.{_≡_, refl, sym, ap, _∙_}
+use mathlib.Core.Logic.{⊎-elim}
+use mathlib.Core.List.{_++_}
+use Prim.Native.Nat.{_+_, _*_, _-_, _≤_, _<_}
+use native.Mathlib.Omega.{arith}
+use borrow.Author.Needs.{needs}
+use borrow.Rule.Slice.PartMut.{mid-len, same-len-mid, postOf}
+use lib.ListN.{length, getD, take, replicate, length-set}
+use Rattle.tree.specs.Parents.{topMark, word}
+use Rattle.prepare.specs.Regions.{Linked, heads, nexts, view}
+use Rattle.prepare.proofs.Chains.{from-end, link-below-in, link-top-in}
+use Rattle.prepare.proofs.Views.{view-back, filled-at}
+use Rattle.prepare.proofs.link.link.Statement.{statement}
+use Rattle.prepare.proofs.link.link.Tie as tie
+
+abbrev Inv-loop : tie.InvT-loop
+Inv-loop parents space₀ n a b first₀ i₀ space first i =
+    (n ≡ length parents) × (a ≡ 2 * length parents) × (b ≡ 3 * length parents) × (i ≤ n) × (length space ≡ 6 * length parents) × Linked parents i (heads parents space) (nexts parents space) first
+
+abbrev μ-loop : tie.MeasureT-loop
+μ-loop parents space₀ n a b first₀ i₀ space first i = i
+
+loop-holds : tie.Need-loop-holds Inv-loop μ-loop
+loop-holds c =
+    let f = c .before .before in
+    let s = f .before .before .before .before in
+    let ps = s .args .parents .now in
+    let xs = s .args .space .now in
+    let ys = f .fill .last .0 in
+    let t : length ps * 2 ≡ 2 * length ps = omega arith in
+    let same : length ys ≡ length ps = omega (arith, f .fill .kept .0, mid-len (length ps * 2) (length ps * 3) xs (omega arith)) in
+    let z : length ps * 3 - length ps * 2 ≡ length ps = omega arith in
+    let all : ys ≡ replicate (length ps) topMark = f .fill .ensures ∙ ap (λ n. replicate n topMark) (mid-len (length ps * 2) (length ps * 3) xs (omega arith) ∙ z) in
+    let back : view (2 * length ps) (length ps) (take (length ps * 2) xs ++ (ys ++ postOf (length ps * 2) (length ps * 3 - length ps * 2) xs)) ≡ ys =
+    rw (sym t) (view-back (length ps * 2) (length ps) xs ys (postOf (length ps * 2) (length ps * 3 - length ps * 2) xs) (omega arith) same)
+    in (
+      refl,
+      t,
+      omega arith,
+      omega arith,
+      same-len-mid (length ps * 2) (length ps * 3 - length ps * 2) xs ys (f .fill .kept .0) ∙ s .pre .1,
+      record {
+        heads = λ v h. rw back (filled-at ys (length ps) topMark v all (omega arith) ∙ rw (from-end ps (length ps) v (omega arith)));
+        nexts = λ j h k. absurd (omega arith);
+        tops = rw (from-end ps (length ps) topMark (omega arith));
+      },
+    )
+
+abbrev start : tie.At-loop Inv-loop μ-loop → tie.Start Inv-loop μ-loop
+start b = b .before .before .before .before .before .before .before
+
+loop-again : tie.Need-loop-again Inv-loop μ-loop
+loop-again c =
+    let b = c .before .before .before .before .before in
+    let l = b .loop in
+    let ps = start b .args .parents .now in
+    let q = c .before .before .wide .result in (
+      l .inv .0,
+      l .inv .1,
+      l .inv .2,
+      omega arith,
+      simp length-set (l .inv .4),
+      link-below-in ps (l .space) (omega arith) (l .inv .4) (l .i) (l .i - 1) (length ps * 2 + q) (length ps * 3 + (l .i - 1)) q (l .first) (omega arith) (omega arith) (omega arith) (omega arith) (c .before .before .wide .ensures) (c .before .if1 .taken) (l .inv .5),
+    )
+
+loop-again-2 : tie.Need-loop-again-2 Inv-loop μ-loop
+loop-again-2 c =
+    let b = c .before .before .before .before in
+    let l = b .loop in
+    let ps = start b .args .parents .now in
+    let below : l .i - 1 < length ps = omega arith in
+    let own : word ps (l .i - 1) ≡ topMark =
+    ⊎-elim (λ h. absurd (omega (arith, c .before .wide .ensures, c .if1 .left))) (λ e. e) (start b .pre .2 (l .i - 1) below)
+    in (
+      l .inv .0,
+      l .inv .1,
+      l .inv .2,
+      omega arith,
+      simp length-set (l .inv .4),
+      link-top-in ps (l .space) (omega arith) (l .inv .4) (l .i) (l .i - 1) (length ps * 3 + (l .i - 1)) (l .first) (omega arith) below (omega arith) own (l .inv .5),
+    )
+
+returns : tie.Need-returns Inv-loop μ-loop
+returns c =
+    let l = c .before .loop in
+    let z : l .i ≡ 0 = omega arith in
+    rw z at (l .inv .5)
+
+pub link-spec : {M : Type 1} → statement M
+link-spec =
+    tie.close
+    (tie.spec
+    Inv-loop
+    μ-loop
+    (λ c. search needs)
+    (λ c. search needs)
+    (λ c. search needs)
+    (λ c. search needs)
+    (λ c. search needs)
+    (λ c. search needs)
+    (λ c κs. search needs)
+    loop-holds
+    (λ c. search needs)
+    (λ c. search needs)
+    (λ c. search needs)
+    (λ c κs. search needs)
+    (λ c. search needs)
+    (λ c. search needs)
+    (λ c. search needs)
+    (λ c. search needs)
+    (λ c. search needs)
+    (λ c. search needs)
+    (λ c. search needs)
+    (λ c. search needs)
+    (λ c. search needs)
+    (λ c. simp length-set (omega arith))
+    (λ c. search needs)
+    loop-again
+    (λ c. search needs)
+    (λ c. search needs)
+    (λ c. search needs)
+    (λ c. search needs)
+    (λ c. search needs)
+    loop-again-2
+    (λ c. search needs)
+    returns)

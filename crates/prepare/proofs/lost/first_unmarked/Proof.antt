@@ -1,0 +1,30 @@
+-- `lost::first_unmarked` meets its contract. Assumes nothing.
+use Prim.Native.Nat.{_-_}
+use borrow.Author.Needs.{needs}
+use borrow.Author.Tests.{eq-eqb, ne-eqb}
+use lib.Dec.{eqb}
+use lib.ListN.{length, getD}
+use Rattle.prepare.proofs.Searches.{Passed, pass-none, pass-more, pass-hit, pass-end}
+use Rattle.prepare.proofs.lost.first_unmarked.Statement.{statement}
+use Rattle.prepare.proofs.lost.first_unmarked.Tie as tie
+
+abbrev Inv-loop : tie.InvT-loop
+Inv-loop marks i₀ i = Passed (λ v. eqb (getD marks v 0) 0) (length marks) i
+
+abbrev μ-loop : tie.MeasureT-loop
+μ-loop marks i₀ i = length marks - i
+
+pub first-unmarked-spec : {M : Type 1} → statement M
+first-unmarked-spec =
+    tie.close
+    (tie.spec
+    Inv-loop
+    μ-loop
+    (λ c. pass-none _ _)
+    (λ c. search needs)
+    (λ c. search needs)
+    (λ c. pass-hit _ _ _ (c .before .before .loop-test .taken) (eq-eqb _ _ (c .if1 .taken)) (c .before .before .before .loop .inv))
+    (λ c. search needs)
+    (λ c. search needs)
+    (λ c. pass-more _ _ _ (c .before .before .loop-test .taken) (ne-eqb _ _ (c .if1 .left)) (c .before .before .before .loop .inv))
+    (λ c. pass-end _ _ _ (c .loop-test .left) (c .before .loop .inv)))

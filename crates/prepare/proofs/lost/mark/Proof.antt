@@ -1,0 +1,100 @@
+-- `lost::mark` meets its contract. Assumes nothing.
+use mathlib.Core.Path.{_≡_, refl, sym, ap, _∙_}
+use mathlib.Core.List.{_++_}
+use Prim.Native.Nat.{_+_, _*_, _-_, _≤_, _<_}
+use native.Mathlib.Omega.{arith}
+use borrow.Author.Needs.{needs}
+use borrow.Rule.Slice.PartMut.{mid-len, same-len-mid, postOf}
+use lib.ListN.{length, getD, take, replicate, length-set}
+use Rattle.tree.specs.Forest.{order}
+use Rattle.prepare.specs.Regions.{view}
+use Rattle.prepare.proofs.Marking.{Marking, mark-none, mark-end, word-low, order-kept, mark-in}
+use Rattle.prepare.proofs.Views.{view-back, view-other, filled-at}
+use Rattle.tree.proofs.Forests.{order-short}
+use Rattle.prepare.proofs.lost.mark.Statement.{statement}
+use Rattle.prepare.proofs.lost.mark.Tie as tie
+
+abbrev Inv-loop : tie.InvT-loop
+Inv-loop parents count space₀ n a b i₀ space i =
+    (a ≡ 5 * length parents) × (i ≤ count) × (length space ≡ 6 * length parents) × (view 0 count space ≡ order parents) × Marking parents i (view (5 * length parents) (length parents) space)
+
+abbrev μ-loop : tie.MeasureT-loop
+μ-loop parents count space₀ n a b i₀ space i = count - i
+
+loop-holds : tie.Need-loop-holds Inv-loop μ-loop
+loop-holds c =
+    let f = c .before .before in
+    let s = f .before .before .before .before in
+    let ps = s .args .parents .now in
+    let xs = s .args .space .now in
+    let ys = f .fill .last .0 in
+    let t : length ps * 5 ≡ 5 * length ps = omega arith in
+    let same : length ys ≡ length ps = omega (arith, f .fill .kept .0, mid-len (length ps * 5) (length ps * 6) xs (omega arith)) in
+    let z : length ps * 6 - length ps * 5 ≡ length ps = omega arith in
+    let all : ys ≡ replicate (length ps) 0 = f .fill .ensures ∙ ap (λ n. replicate n 0) (mid-len (length ps * 5) (length ps * 6) xs (omega arith) ∙ z) in
+    let rest = ys ++ postOf (length ps * 5) (length ps * 6 - length ps * 5) xs in
+    let back : view (5 * length ps) (length ps) (take (length ps * 5) xs ++ rest) ≡ ys =
+    rw (sym t) (view-back (length ps * 5) (length ps) xs ys (postOf (length ps * 5) (length ps * 6 - length ps * 5) xs) (omega arith) same)
+    in (
+      t,
+      omega arith,
+      same-len-mid (length ps * 5) (length ps * 6 - length ps * 5) xs ys (f .fill .kept .0) ∙ s .pre .1,
+      view-other (length ps * 5) 0 (s .args .count) xs rest (omega (arith, order-short ps (omega arith))) (omega arith) ∙ s .pre .3,
+      rw back (mark-none ps (omega arith) ys (λ v h. filled-at ys (length ps) 0 v all (omega arith))),
+    )
+
+abbrev start : tie.At-loop Inv-loop μ-loop → tie.Start Inv-loop μ-loop
+start b = b .before .before .before .before .before .before .before
+
+low : (c : tie.After-wide Inv-loop μ-loop) → c .wide .result < length (start (c .before .before .before) .args .parents .now)
+low c =
+    let b = c .before .before .before in
+    let s = start b in
+    let l = b .loop in
+    rw (c .wide .ensures) (word-low (s .args .parents .now) (l .space) (omega arith) (l .inv .2) (s .args .count) (l .i) (omega arith) (s .pre .2) (l .inv .3))
+
+loop-again : tie.Need-loop-again Inv-loop μ-loop
+loop-again c =
+    let b = c .before .before .before in
+    let s = start b in
+    let l = b .loop in
+    let ps = s .args .parents .now in
+    let q = length ps * 5 + c .wide .result in
+    let e : length ps * 5 + c .wide .result ≡ 5 * length ps + getD (l .space) (l .i) 0 = omega (arith, c .wide .ensures) in (
+      l .inv .0,
+      omega arith,
+      simp length-set (l .inv .2),
+      order-kept ps (l .space) (omega arith) (l .inv .2) (s .args .count) (l .i) (omega arith) (s .pre .2) (l .inv .3) q e,
+      mark-in ps (l .space) (omega arith) (l .inv .2) (s .args .count) (l .i) (omega arith) (s .pre .2) (l .inv .3) q e (l .inv .4),
+    )
+
+returns : tie.Need-returns Inv-loop μ-loop
+returns c =
+    let l = c .before .loop in
+    mark-end (start (c .before) .args .parents .now) (omega arith) _ (l .i) (omega arith) (l .inv .4)
+
+pub mark-spec : {M : Type 1} → statement M
+mark-spec =
+    tie.close
+    (tie.spec
+    Inv-loop
+    μ-loop
+    (λ c. search needs)
+    (λ c. search needs)
+    (λ c. search needs)
+    (λ c. search needs)
+    (λ c. search needs)
+    (λ c. search needs)
+    (λ c κs. search needs)
+    loop-holds
+    (λ c. omega (arith, order-short (start (c .before) .args .parents .now) (omega arith)))
+    (λ c. omega (arith, order-short (start (c .before .before) .args .parents .now) (omega arith)))
+    (λ c κs. search needs)
+    (λ c. omega (arith, low c))
+    (λ c. omega (arith, low c))
+    (λ c. omega (arith, low c))
+    (λ c. search needs)
+    (λ c. search needs)
+    loop-again
+    (λ c. search needs)
+    returns)

@@ -1,0 +1,52 @@
+// What turns a list away: 4 to 6, in that order.
+ghost use mathlib.Core.Path.{_≡_};
+ghost use Prim.Native.Nat.{_*_, _≤_};
+ghost use lib.ListN.{length};
+ghost use Rattle.prepare.specs.Verdict.{verdict, Says};
+use crate::Judged;
+use crate::link::link;
+use crate::lost::first_lost;
+use crate::stray::first_stray;
+use crate::walk::walk;
+use crate::words::wide;
+
+pub(crate) fn faults(parents: &[u32], space: &mut [u32]) -> Judged
+    requires { ⌜ (length (now parents) ≤ 1048576) × (length (now space) ≡ 6 * length (now parents)) ⌝ }
+    ensures { λ r. ⌜ Says (verdict (now (parents .entry))) (r .number) (r .word) ⌝ }
+{
+    let n = parents.len();
+    let s = first_stray(parents);
+    if s < n {
+        return Judged {
+            number: 4,
+            word: s as u32,
+        };
+    }
+    let first = link(parents, space);
+    let t = wide(first);
+    if n <= t {
+        return Judged {
+            number: 5,
+            word: n as u32,
+        };
+    }
+    let u = wide(space[n * 3 + t]);
+    if u < n {
+        return Judged {
+            number: 5,
+            word: u as u32,
+        };
+    }
+    let count = walk(parents, first, space);
+    if count < n {
+        let w = first_lost(parents, count, space);
+        return Judged {
+            number: 6,
+            word: w as u32,
+        };
+    }
+    Judged {
+        number: 0,
+        word: n as u32,
+    }
+}

@@ -1,0 +1,32 @@
+// The children of each entry, chained in increasing number: region 2 has first children, region 3 next siblings.
+ghost use mathlib.Core.Path.{_≡_};
+ghost use Prim.Native.Nat.{_*_, _≤_};
+ghost use lib.ListN.{length};
+ghost use Rattle.prepare.specs.Regions.{NoStray, Linked, heads, nexts};
+use crate::words::fill;
+use crate::words::wide;
+
+// Links the entries, and hands back the first top.
+pub(crate) fn link(parents: &[u32], space: &mut [u32]) -> u32
+    requires { ⌜ (length (now parents) ≤ 1048576) × (length (now space) ≡ 6 * length (now parents)) × NoStray (now parents) ⌝ }
+    ensures { λ r. ⌜ Linked (now (parents .entry)) 0 (heads (now (parents .entry)) (now (space .exit))) (nexts (now (parents .entry)) (now (space .exit))) r ⌝ }
+{
+    let n = parents.len();
+    let a = n * 2;
+    let b = n * 3;
+    fill(&mut space[a..b], 4294967295);
+    let mut first = 4294967295;
+    let mut i = n;
+    while 0 < i {
+        i -= 1;
+        let q = wide(parents[i]);
+        if q < n {
+            space[b + i] = space[a + q];
+            space[a + q] = i as u32;
+        } else {
+            space[b + i] = first;
+            first = i as u32;
+        }
+    }
+    first
+}

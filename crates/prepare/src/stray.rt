@@ -1,0 +1,27 @@
+// A word that is neither the top mark nor an entry.
+ghost use mathlib.Core.Path.{_≡_};
+ghost use lib.ListN.{length};
+ghost use Rattle.tree.specs.Faults.{lowest, isStray};
+ghost use Rattle.prepare.specs.Regions.{orAll};
+use crate::words::wide;
+
+// The lowest entry whose word is stray, or n.
+pub(crate) fn first_stray(parents: &[u32]) -> usize
+    ensures { λ r. ⌜ r ≡ orAll (lowest (now (parents .entry)) (isStray (now (parents .entry)))) (length (now (parents .entry))) ⌝ }
+{
+    let mut i = 0;
+    while i < parents.len() {
+        let p = parents[i];
+        let q = wide(p);
+        if q < parents.len() {
+            i += 1;
+        } else {
+            if p == 4294967295 {
+                i += 1;
+            } else {
+                return i;
+            }
+        }
+    }
+    i
+}

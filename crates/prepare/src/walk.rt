@@ -1,0 +1,38 @@
+// The preorder of what hangs from the top, with the depth of each entry.
+ghost use mathlib.Core.Path.{_≡_};
+ghost use Prim.Native.Nat.{_*_, _≤_};
+ghost use lib.ListN.{length};
+ghost use Rattle.tree.specs.Forest.{order, whole, levels};
+ghost use Rattle.prepare.specs.Regions.{Linked, heads, nexts, view};
+use crate::words::wide;
+
+// The preorder into region 0 and the depths into region 1; hands back how many entries there are.
+// The chains of later siblings are pending, the latest first: as many as the current entry has entries above it. They stand at the end of the space.
+pub(crate) fn walk(parents: &[u32], first: u32, space: &mut [u32]) -> usize
+    requires { ⌜ (length (now parents) ≤ 1048576) × (length (now space) ≡ 6 * length (now parents)) × Linked (now parents) 0 (heads (now parents) (now space)) (nexts (now parents) (now space)) first ⌝ }
+    ensures { λ r. ⌜ (r ≡ length (order (now (parents .entry)))) × (view 0 r (now (space .exit)) ≡ order (now (parents .entry))) × (view (length (now (parents .entry))) r (now (space .exit)) ≡ levels 0 (whole (now (parents .entry)))) ⌝ }
+{
+    let n = parents.len();
+    let top = n * 6;
+    let mut count = 0;
+    let mut sp = top;
+    let mut cur = wide(first);
+    loop {
+        if cur < n {
+            let s = space[n * 3 + cur];
+            let d = wide(space[n * 2 + cur]);
+            space[count] = cur as u32;
+            space[n + count] = (top - sp) as u32;
+            count += 1;
+            sp -= 1;
+            space[sp] = s;
+            cur = d;
+        } else {
+            if sp == top {
+                return count;
+            }
+            cur = wide(space[sp]);
+            sp += 1;
+        }
+    }
+}
