@@ -13,3 +13,4 @@ pub mod TableWords
 pub mod Leaps
 pub mod Levels
 pub mod Questions
+pub mod Theorems
