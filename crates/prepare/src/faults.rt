@@ -11,7 +11,7 @@ use crate::walk::walk;
 use crate::words::wide;
 
 pub(crate) fn faults(parents: &[u32], space: &mut [u32]) -> Judged
-    requires { ⌜ (length (now parents) ≤ 1048576) × (length (now space) ≡ 6 * length (now parents)) ⌝ }
+    requires { ⌜ (length (now parents) ≤ 1048576) × (6 * length (now parents) ≤ length (now space)) ⌝ }
     ensures { λ r. ⌜ Says (verdict (now (parents .entry))) (r .number) (r .word) ⌝ }
 {
     let n = parents.len();
