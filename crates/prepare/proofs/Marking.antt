@@ -12,7 +12,7 @@ use lib.Dec.{eqb}
 use borrow.Author.Tests.{not-false}
 use Rattle.base.specs.Lists.{below, first, place}
 use Rattle.base.proofs.Lists.{clash, first-none}
-use Rattle.base.proofs.Counts.{one, times}
+use Rattle.base.proofs.Counts.{one}
 use Rattle.base.proofs.Places.{place-stands}
 use Rattle.tree.specs.Parents.{topMark}
 use Rattle.tree.specs.Forest.{order}

@@ -1,5 +1,4 @@
 // The children of each entry, chained in increasing number: region 2 has first children, region 3 next siblings.
-ghost use mathlib.Core.Path.{_≡_};
 ghost use Prim.Native.Nat.{_*_, _≤_};
 ghost use lib.ListN.{length};
 ghost use Rattle.prepare.specs.Regions.{NoStray, Linked, heads, nexts};

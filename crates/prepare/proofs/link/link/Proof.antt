@@ -6,7 +6,7 @@ use Prim.Native.Nat.{_+_, _*_, _-_, _≤_, _<_}
 use native.Mathlib.Omega.{arith}
 use borrow.Author.Needs.{needs}
 use borrow.Rule.Slice.PartMut.{mid-len, same-len-mid, postOf}
-use lib.ListN.{length, getD, take, replicate, length-set}
+use lib.ListN.{length, take, replicate, length-set}
 use Rattle.tree.specs.Parents.{topMark, word}
 use Rattle.prepare.specs.Regions.{Linked, heads, nexts, view}
 use Rattle.prepare.proofs.Chains.{from-end, link-below-in, link-top-in}

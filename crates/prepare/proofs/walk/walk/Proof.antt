@@ -1,10 +1,10 @@
 -- `walk::walk` meets its contract. What is written and what the pending chains give is the preorder. Assumes nothing.
 use mathlib.Core.Path.{_≡_, refl, sym, ap, _∙_}
-use mathlib.Core.List.{List, [], _∷_}
+use mathlib.Core.List.{_∷_}
 use Prim.Native.Nat.{_+_, _*_, _-_, _≤_, _<_}
 use native.Mathlib.Omega.{arith}
 use borrow.Author.Needs.{needs}
-use lib.ListN.{length, getD, length-set}
+use lib.ListN.{length, length-set}
 use Rattle.prepare.specs.Regions.{Linked, heads, nexts, view}
 use Rattle.prepare.proofs.Pending.{Walked, walk-start, walk-skip, walk-end, room-in, linked-in, emit-in}
 use Rattle.prepare.proofs.Views.{view-none, view-length, view-pop}
