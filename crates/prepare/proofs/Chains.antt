@@ -6,7 +6,7 @@ use mathlib.Core.Bool.{cond}
 use Prim.Native.Nat.{ℕ, zero, suc, _+_, _*_, _≤_, _<_}
 use native.Mathlib.Omega.{arith}
 use native.Mathlib.Decide.{ℕ-discrete}
-use lib.ListN.{length, getD, drop, set, length-set, drop-of-length-le}
+use lib.ListN.{length, getD, set, drop-of-length-le}
 use lib.Seq.{drop-cons, getD-set-same, getD-set-other}
 use lib.Dec.{eqb, ltb}
 use borrow.Author.Tests.{eq-eqb, ne-eqb, lt-ltb, le-ltb}
@@ -87,7 +87,7 @@ link-top ps i k head next r e below lh ln own small l =
     }
 
 -- the same in the regions of one working space
-module _ (ps space : List ℕ) (small : length ps ≤ topMark) (room : length space ≡ 6 * length ps) where
+module _ (ps space : List ℕ) (small : length ps ≤ topMark) (room : 6 * length ps ≤ length space) where
   pub link-below-in : (i k a q p r : ℕ) → suc k ≡ i → k < length ps → a ≡ 2 * length ps + p → q ≡ 3 * length ps + k → p ≡ getD ps k 0 → p < length ps
       → Linked ps i (heads ps space) (nexts ps space) r
       → Linked ps k (heads ps (set (set space q (getD space a 0)) a k)) (nexts ps (set (set space q (getD space a 0)) a k)) r

@@ -12,7 +12,7 @@ use lib.Dec.{eqb}
 use borrow.Author.Tests.{not-false}
 use Rattle.base.specs.Lists.{below, first, place}
 use Rattle.base.proofs.Lists.{clash, first-none}
-use Rattle.base.proofs.Counts.{one, times}
+use Rattle.base.proofs.Counts.{one}
 use Rattle.base.proofs.Places.{place-stands}
 use Rattle.tree.specs.Parents.{topMark}
 use Rattle.tree.specs.Forest.{order}
@@ -79,7 +79,7 @@ module _ (ps : List ℕ) (small : length ps ≤ topMark) where
         go (yes h) = (h, found-some (λ v. not (meetsTop ps v)) (length ps) r is h)
 
 -- a mark more, in one working space
-module _ (ps space : List ℕ) (small : length ps ≤ topMark) (room : length space ≡ 6 * length ps) (count i : ℕ) (b : i < count) (c : count ≡ length (order ps)) (o : view 0 count space ≡ order ps) where
+module _ (ps space : List ℕ) (small : length ps ≤ topMark) (room : 6 * length ps ≤ length space) (count i : ℕ) (b : i < count) (c : count ≡ length (order ps)) (o : view 0 count space ≡ order ps) where
   word-is : getD space i 0 ≡ getD (order ps) i 0
   word-is = view-at 0 count space i i b (omega arith) ∙ ap (λ l. getD l i 0) o
 

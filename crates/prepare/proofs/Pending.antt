@@ -1,21 +1,16 @@
 -- The walk's state: what is written, and what the pending chains will give. Assumes nothing.
-use mathlib.Core.Path.{_≡_, refl, sym, ap, _∙_}
+use mathlib.Core.Path.{_≡_, refl, ap}
 use mathlib.Core.List.{List, [], _∷_, _++_, append-assoc, append-nil}
 use Prim.Native.Nat.{ℕ, zero, suc, _+_, _*_, _-_, _≤_, _<_}
 use native.Mathlib.Omega.{arith}
-use lib.ListN.{length, getD, drop, set, length-append, length-set, length-drop}
-use lib.Seq.{drop-cons, getD-set-same, drop-set-lt}
+use lib.ListN.{length, getD, set, length-append, length-set}
 use Rattle.tree.specs.Parents.{topMark, word, children}
 use Rattle.tree.specs.Forest.{Forest, empty, node, plant, grow, preorder, levels, whole, order}
 use Rattle.tree.proofs.Preorders.{whole-more}
 use Rattle.tree.proofs.Forests.{order-short}
 use Rattle.prepare.specs.Regions.{after, firstOf, Linked, heads, nexts, view}
 use Rattle.prepare.proofs.Chains.{sibs, sibs-in, sibs-out, sibs-from}
-use Rattle.prepare.proofs.Views.{view-length, view-at, view-before, view-past, view-more}
-
--- a push on a stack that grows down
-drop-set : (l : List ℕ) (i a : ℕ) → i < length l → drop i (set l i a) ≡ a ∷ drop (suc i) l
-drop-set l i a h = drop-cons (set l i a) i 0 (simp length-set h) ∙ rw (getD-set-same l i a 0 h, drop-set-lt (suc i) l i a (omega arith))
+use Rattle.prepare.proofs.Views.{view-length, view-at, view-before, view-past, view-more, view-push}
 
 -- the forest of a chain with d chains pending behind it: it hangs that deep
 abbrev hangs : List ℕ → ℕ → ℕ → Forest
@@ -86,17 +81,17 @@ module _ (ps : List ℕ) (small : length ps ≤ topMark) where
       walk-room = omega (arith, walk-fits (out ++ c ∷ []) (deep ++ length st ∷ []) (getD head c 0 ∷ getD next c 0 ∷ st) walk-emit, length-append out (c ∷ []))
 
 -- the same in one working space: a word of the preorder, its depth, and the entry's later siblings are stored
-module _ (ps space : List ℕ) (small : length ps ≤ topMark) (room : length space ≡ 6 * length ps) (f : ℕ) (l : Linked ps 0 (heads ps space) (nexts ps space) f)
-    (count sp c : ℕ) (h : c < length ps) (b : 5 * length ps ≤ sp) (t : sp ≤ 6 * length ps) (d : 6 * length ps ≤ sp + count) (e : count ≤ length ps)
-    (w : Walked ps (view 0 count space) (view (length ps) count space) (c ∷ drop sp space)) where
-  few : length (drop sp space) ≤ length (view 0 count space)
-  few = omega (arith, length-drop sp space, view-length 0 count space (omega arith))
+module _ (ps space : List ℕ) (small : length ps ≤ topMark) (room : 6 * length ps ≤ length space) (f : ℕ) (l : Linked ps 0 (heads ps space) (nexts ps space) f)
+    (count sp c : ℕ) (h : c < length ps) (b : 4 * length ps ≤ sp) (t : sp ≤ 5 * length ps) (d : 5 * length ps ≤ sp + count) (e : count ≤ length ps)
+    (w : Walked ps (view 0 count space) (view (length ps) count space) (c ∷ view sp (5 * length ps - sp) space)) where
+  few : length (view sp (5 * length ps - sp) space) ≤ length (view 0 count space)
+  few = omega (arith, view-length sp (5 * length ps - sp) space (omega arith), view-length 0 count space (omega arith))
 
   pub room-in : count < length ps
   room-in =
-      omega (arith, walk-room ps small (heads ps space) (nexts ps space) f l (view 0 count space) (view (length ps) count space) (drop sp space) c h few w, view-length 0 count space (omega arith))
+      omega (arith, walk-room ps small (heads ps space) (nexts ps space) f l (view 0 count space) (view (length ps) count space) (view sp (5 * length ps - sp) space) c h few w, view-length 0 count space (omega arith))
 
-  module _ (at deep j a n : ℕ) (et : at ≡ length ps + count) (ed : deep ≡ 6 * length ps - sp) (ej : suc j ≡ sp) (ea : a ≡ 2 * length ps + c) (en : n ≡ 3 * length ps + c) where
+  module _ (at deep j a n : ℕ) (et : at ≡ length ps + count) (ed : deep ≡ 5 * length ps - sp) (ej : suc j ≡ sp) (ea : a ≡ 2 * length ps + c) (en : n ≡ 3 * length ps + c) where
     abbrev two : List ℕ
     two = set (set space count c) at deep
 
@@ -116,12 +111,12 @@ module _ (ps space : List ℕ) (small : length ps ≤ topMark) (room : length sp
         )
         l
 
-    pub emit-in : Walked ps (view 0 (count + 1) after-emit) (view (length ps) (count + 1) after-emit) (getD space a 0 ∷ drop j after-emit)
+    pub emit-in : Walked ps (view 0 (count + 1) after-emit) (view (length ps) (count + 1) after-emit) (getD space a 0 ∷ view j (5 * length ps - j) after-emit)
     emit-in =
         let r = room-in in
-        let m : length (set space count c) ≡ 6 * length ps = simp length-set room in
-        let m2 : length two ≡ 6 * length ps = simp length-set room in
-        let ed2 : deep ≡ length (drop sp space) = omega (arith, length-drop sp space) in
+        let m : 6 * length ps ≤ length (set space count c) = simp length-set room in
+        let m2 : 6 * length ps ≤ length two = simp length-set room in
+        let ed2 : deep ≡ length (view sp (5 * length ps - sp) space) = omega (arith, view-length sp (5 * length ps - sp) space (omega arith)) in
         rw (
           view-past 0 (count + 1) two j (getD space n 0) (omega arith),
           view-past 0 (count + 1) (set space count c) at deep (omega arith),
@@ -129,12 +124,11 @@ module _ (ps space : List ℕ) (small : length ps ≤ topMark) (room : length sp
           view-past (length ps) (count + 1) two j (getD space n 0) (omega arith),
           view-more (length ps) count (set space count c) at deep (omega arith) et,
           view-before (length ps) count space count c r,
-          drop-set two j (getD space n 0) (omega arith),
-          ej,
-          drop-set-lt sp (set space count c) at deep (omega arith),
-          drop-set-lt sp space count c (omega arith),
+          view-push j sp (5 * length ps) two (getD space n 0) ej t (omega arith),
+          view-before sp (5 * length ps - sp) (set space count c) at deep (omega arith),
+          view-before sp (5 * length ps - sp) space count c (omega arith),
           view-at (2 * length ps) (length ps) space c a h ea,
           view-at (3 * length ps) (length ps) space c n h en,
           ed2,
         )
-        (walk-emit ps small (heads ps space) (nexts ps space) f l (view 0 count space) (view (length ps) count space) (drop sp space) c h few w)
+        (walk-emit ps small (heads ps space) (nexts ps space) f l (view 0 count space) (view (length ps) count space) (view sp (5 * length ps - sp) space) c h few w)

@@ -1,8 +1,8 @@
 -- What a parent list is turned away for, as the steps of judging find it. Assumes nothing.
-use mathlib.Core.Path.{_≡_, refl, sym, ap, _∙_}
-use mathlib.Core.List.{List, [], _∷_, _++_}
+use mathlib.Core.Path.{_≡_, sym, ap, _∙_}
+use mathlib.Core.List.{List, _∷_, _++_}
 use mathlib.Core.Bool.{not}
-use mathlib.Core.Option.{Option, none, some, Option·elim, orElse}
+use mathlib.Core.Option.{none, some, Option·elim, orElse}
 use Prim.Native.Nat.{ℕ, suc, _*_, _-_, _≤_, _<_}
 use native.Mathlib.Omega.{arith}
 use lib.ListN.{length, drop, replicate}

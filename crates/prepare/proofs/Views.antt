@@ -1,11 +1,11 @@
 -- Parts of one slice, as lists of their own: what a store does to each. Assumes nothing.
 use mathlib.Core.Path.{_≡_, refl, sym, ap, _∙_}
 use mathlib.Core.List.{List, [], _∷_, _++_, append-assoc}
-use Prim.Native.Nat.{ℕ, zero, suc, _+_, _-_, _≤_, _<_}
+use Prim.Native.Nat.{ℕ, suc, _+_, _-_, _≤_, _<_}
 use native.Mathlib.Omega.{arith}
 use native.Mathlib.Numerals.{add-one}
-use lib.ListN.{length, getD, take, drop, set, replicate, length-replicate, getD-replicate, length-append, length-take, length-drop, take-append-drop}
-use lib.Seq.{getD-take, getD-drop, take-set-le, take-set-lt, drop-set-lt, drop-set-add, take-suc-set, drop-append-le, take-append-le, drop-at, take-at, drop-cons, set-append-seam}
+use lib.ListN.{length, getD, take, drop, set, replicate, length-replicate, getD-replicate, length-append, length-set, length-take, length-drop, take-append-drop}
+use lib.Seq.{getD-take, getD-drop, take-set-le, take-set-lt, drop-set-lt, drop-set-add, take-suc-set, drop-append-le, take-append-le, drop-at, take-at, drop-cons, set-append-seam, getD-set-same}
 use Rattle.prepare.specs.Regions.{view}
 
 module _ (a c : ℕ) (l : List ℕ) where
@@ -40,6 +40,19 @@ module _ (a c : ℕ) (l : List ℕ) where
   pub view-none : view a 0 l ≡ []
   unfolding view
   view-none = refl
+
+-- a part up to m as a stack that grows down: a push, and a pop
+pub view-push : (j k m : ℕ) (l : List ℕ) (x : ℕ) → suc j ≡ k → k ≤ m → j < length l → view j (m - j) (set l j x) ≡ x ∷ view k (m - k) l
+unfolding view
+view-push j k m l x e h b =
+    let z : m - j ≡ suc (m - k) = omega arith in
+    rw (z, drop-cons (set l j x) j 0 (simp length-set b), getD-set-same l j x 0 b, drop-set-lt (suc j) l j x (omega arith), e)
+
+pub view-pop : (j m : ℕ) (l : List ℕ) → j < m → j < length l → view j (m - j) l ≡ getD l j 0 ∷ view (j + 1) (m - (j + 1)) l
+unfolding view
+view-pop j m l h b =
+    let z : m - j ≡ suc (m - suc j) = omega arith in
+    rw (add-one, z, drop-cons l j 0 b)
 
 -- a part that was lent is back: the part itself, and one that lies before it
 pub view-front : (b c : ℕ) (p r : List ℕ) → b + c ≤ length p → view b c (p ++ r) ≡ view b c p

@@ -1,5 +1,4 @@
 // What turns a list away: 4 to 6, in that order.
-ghost use mathlib.Core.Path.{_≡_};
 ghost use Prim.Native.Nat.{_*_, _≤_};
 ghost use lib.ListN.{length};
 ghost use Rattle.prepare.specs.Verdict.{verdict, Says};
@@ -11,16 +10,13 @@ use crate::walk::walk;
 use crate::words::wide;
 
 pub(crate) fn faults(parents: &[u32], space: &mut [u32]) -> Judged
-    requires { ⌜ (length (now parents) ≤ 1048576) × (length (now space) ≡ 6 * length (now parents)) ⌝ }
+    requires { ⌜ (length (now parents) ≤ 1048576) × (6 * length (now parents) ≤ length (now space)) ⌝ }
     ensures { λ r. ⌜ Says (verdict (now (parents .entry))) (r .number) (r .word) ⌝ }
 {
     let n = parents.len();
     let s = first_stray(parents);
-    if s < n {
-        return Judged {
-            number: 4,
-            word: s as u32,
-        };
+    if wide(s) < n {
+        return Judged { number: 4, word: s };
     }
     let first = link(parents, space);
     let t = wide(first);

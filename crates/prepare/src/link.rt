@@ -1,5 +1,4 @@
 // The children of each entry, chained in increasing number: region 2 has first children, region 3 next siblings.
-ghost use mathlib.Core.Path.{_≡_};
 ghost use Prim.Native.Nat.{_*_, _≤_};
 ghost use lib.ListN.{length};
 ghost use Rattle.prepare.specs.Regions.{NoStray, Linked, heads, nexts};
@@ -8,7 +7,7 @@ use crate::words::wide;
 
 // Links the entries, and hands back the first top.
 pub(crate) fn link(parents: &[u32], space: &mut [u32]) -> u32
-    requires { ⌜ (length (now parents) ≤ 1048576) × (length (now space) ≡ 6 * length (now parents)) × NoStray (now parents) ⌝ }
+    requires { ⌜ (length (now parents) ≤ 1048576) × (6 * length (now parents) ≤ length (now space)) × NoStray (now parents) ⌝ }
     ensures { λ r. ⌜ Linked (now (parents .entry)) 0 (heads (now (parents .entry)) (now (space .exit))) (nexts (now (parents .entry)) (now (space .exit))) r ⌝ }
 {
     let n = parents.len();

@@ -14,7 +14,7 @@ use crate::words::wide;
 
 // Marks the entries of the preorder in region 5.
 fn mark(parents: &[u32], count: usize, space: &mut [u32])
-    requires { ⌜ (length (now parents) ≤ 1048576) × (length (now space) ≡ 6 * length (now parents)) × (count ≡ length (order (now parents))) × (view 0 count (now space) ≡ order (now parents)) ⌝ }
+    requires { ⌜ (length (now parents) ≤ 1048576) × (6 * length (now parents) ≤ length (now space)) × (count ≡ length (order (now parents))) × (view 0 count (now space) ≡ order (now parents)) ⌝ }
     ensures { λ _. ⌜ Marked (now (parents .entry)) (view (5 * length (now (parents .entry))) (length (now (parents .entry))) (now (space .exit))) ⌝ }
 {
     let n = parents.len();
@@ -46,7 +46,7 @@ fn first_unmarked(marks: &[u32]) -> usize
 
 // The lowest entry whose climb never meets the top, where there is one.
 pub(crate) fn first_lost(parents: &[u32], count: usize, space: &mut [u32]) -> usize
-    requires { ⌜ (length (now parents) ≤ 1048576) × (length (now space) ≡ 6 * length (now parents)) × (count ≡ length (order (now parents))) × (view 0 count (now space) ≡ order (now parents)) × (count < length (now parents)) ⌝ }
+    requires { ⌜ (length (now parents) ≤ 1048576) × (6 * length (now parents) ≤ length (now space)) × (count ≡ length (order (now parents))) × (view 0 count (now space) ≡ order (now parents)) × (count < length (now parents)) ⌝ }
     ensures { λ r. ⌜ (r < length (now (parents .entry))) × (lowest (now (parents .entry)) (λ v. not (meetsTop (now (parents .entry)) v)) ≡ some r) ⌝ }
 {
     mark(parents, count, space);

@@ -1,12 +1,14 @@
 // A word that is neither the top mark nor an entry.
 ghost use mathlib.Core.Path.{_≡_};
+ghost use Prim.Native.Nat.{_≤_};
 ghost use lib.ListN.{length};
 ghost use Rattle.tree.specs.Faults.{lowest, isStray};
 ghost use Rattle.prepare.specs.Regions.{orAll};
 use crate::words::wide;
 
 // The lowest entry whose word is stray, or n.
-pub(crate) fn first_stray(parents: &[u32]) -> usize
+pub(crate) fn first_stray(parents: &[u32]) -> u32
+    requires { ⌜ length (now parents) ≤ 1048576 ⌝ }
     ensures { λ r. ⌜ r ≡ orAll (lowest (now (parents .entry)) (isStray (now (parents .entry)))) (length (now (parents .entry))) ⌝ }
 {
     let mut i = 0;
@@ -19,9 +21,9 @@ pub(crate) fn first_stray(parents: &[u32]) -> usize
             if p == 4294967295 {
                 i += 1;
             } else {
-                return i;
+                return i as u32;
             }
         }
     }
-    i
+    i as u32
 }

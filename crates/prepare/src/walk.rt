@@ -7,13 +7,13 @@ ghost use Rattle.prepare.specs.Regions.{Linked, heads, nexts, view};
 use crate::words::wide;
 
 // The preorder into region 0 and the depths into region 1; hands back how many entries there are.
-// The chains of later siblings are pending, the latest first: as many as the current entry has entries above it. They stand at the end of the space.
+// Region 4 holds the pending chains of later siblings, the latest first, up to its end: as many as the current entry has entries above it.
 pub(crate) fn walk(parents: &[u32], first: u32, space: &mut [u32]) -> usize
-    requires { ⌜ (length (now parents) ≤ 1048576) × (length (now space) ≡ 6 * length (now parents)) × Linked (now parents) 0 (heads (now parents) (now space)) (nexts (now parents) (now space)) first ⌝ }
+    requires { ⌜ (length (now parents) ≤ 1048576) × (6 * length (now parents) ≤ length (now space)) × Linked (now parents) 0 (heads (now parents) (now space)) (nexts (now parents) (now space)) first ⌝ }
     ensures { λ r. ⌜ (r ≡ length (order (now (parents .entry)))) × (view 0 r (now (space .exit)) ≡ order (now (parents .entry))) × (view (length (now (parents .entry))) r (now (space .exit)) ≡ levels 0 (whole (now (parents .entry)))) ⌝ }
 {
     let n = parents.len();
-    let top = n * 6;
+    let top = n * 5;
     let mut count = 0;
     let mut sp = top;
     let mut cur = wide(first);

@@ -23,48 +23,48 @@ start f = f .before .before .before
 abbrev listed : tie.After-first-stray → List ℕ
 listed f = start f .args .parents .now
 
-fine : (c : tie.Else1) → lowest (listed (c .before)) (isStray (listed (c .before))) ≡ none
-fine c = found-none (isStray (listed (c .before))) (length (listed (c .before))) (c .before .first-stray .result) (c .before .first-stray .ensures) (c .if1 .left)
+fine : (c : tie.Else1) → lowest (listed (c .before .before)) (isStray (listed (c .before .before))) ≡ none
+fine c = found-none (isStray (listed (c .before .before))) (length (listed (c .before .before))) (c .before .before .first-stray .result) (c .before .before .first-stray .ensures) (rw (c .before .wide .ensures) at (c .if1 .left))
 
-abbrev checked : tie.After-wide → tie.Else1
+abbrev checked : tie.After-wide2 → tie.Else1
 checked w = w .before .before .before .before .before
 
-abbrev list : tie.After-wide → List ℕ
-list w = listed (checked w .before)
+abbrev list : tie.After-wide2 → List ℕ
+list w = listed (checked w .before .before)
 
-tiny : (w : tie.After-wide) → length (list w) ≤ topMark
-tiny w = omega (arith, start (checked w .before) .pre .0)
+tiny : (w : tie.After-wide2) → length (list w) ≤ topMark
+tiny w = omega (arith, start (checked w .before .before) .pre .0)
 
-first-is : (w : tie.After-wide) → w .wide .result ≡ firstOf (children (list w) topMark)
-first-is w = w .wide .ensures ∙ w .before .before .before .link .ensures .tops
+first-is : (w : tie.After-wide2) → w .wide2 .result ≡ firstOf (children (list w) topMark)
+first-is w = w .wide2 .ensures ∙ w .before .before .before .link .ensures .tops
 
-abbrev topped : tie.After-wide2 → tie.After-wide
+abbrev topped : tie.After-wide3 → tie.After-wide2
 topped x = x .before .before .before
 
-next-is : (x : tie.After-wide2) → x .wide2 .result ≡ firstOf (after (list (topped x)) (topped x .wide .result))
+next-is : (x : tie.After-wide3) → x .wide3 .result ≡ firstOf (after (list (topped x)) (topped x .wide2 .result))
 next-is x =
     let w = topped x in
     let l = w .before .before .before .link in
-    x .wide2 .ensures
-    ∙ view-at (3 * length (list w)) (length (list w)) (l .last .1 .0) (w .wide .result) (length (list w) * 3 + w .wide .result) (omega arith) (omega arith)
-    ∙ l .ensures .nexts (w .wide .result) (omega arith) (omega arith)
+    x .wide3 .ensures
+    ∙ view-at (3 * length (list w)) (length (list w)) (l .last .1 .0) (w .wide2 .result) (length (list w) * 3 + w .wide2 .result) (omega arith) (omega arith)
+    ∙ l .ensures .nexts (w .wide2 .result) (omega arith) (omega arith)
 
 returns : tie.Need-returns
 returns c =
-    let f = c .before in
+    let f = c .before .before in
     let ps = listed f in
-    says _ (stray (f .first-stray .result)) (verdict-stray ps (omega arith) (f .first-stray .result) (found-some (isStray ps) (length ps) (f .first-stray .result) (f .first-stray .ensures) (c .if1 .taken)))
+    says _ (stray (f .first-stray .result)) (verdict-stray ps (omega arith) (f .first-stray .result) (found-some (isStray ps) (length ps) (f .first-stray .result) (f .first-stray .ensures) (rw (c .before .wide .ensures) at (c .if1 .taken))))
 
 returns-2 : tie.Need-returns-2
 returns-2 c =
     let w = c .before in
-    says _ (tops (length (list w))) (verdict-none (list w) (tiny w) (fine (checked w)) (w .wide .result) (first-is w) (c .if2 .taken))
+    says _ (tops (length (list w))) (verdict-none (list w) (tiny w) (fine (checked w)) (w .wide2 .result) (first-is w) (c .if2 .taken))
 
 returns-3 : tie.Need-returns-3
 returns-3 c =
     let x = c .before in
     let w = topped x in
-    says _ (tops (x .wide2 .result)) (verdict-two (list w) (tiny w) (fine (checked w)) (w .wide .result) (first-is w) (x .before .before .if2 .left) (x .wide2 .result) (next-is x) (c .if3 .taken))
+    says _ (tops (x .wide3 .result)) (verdict-two (list w) (tiny w) (fine (checked w)) (w .wide2 .result) (first-is w) (x .before .before .if2 .left) (x .wide3 .result) (next-is x) (c .if3 .taken))
 
 returns-4 : tie.Need-returns-4
 returns-4 c =
@@ -72,7 +72,7 @@ returns-4 c =
     let o = y .before .before .before .before .before .before .before in
     let x = o .before in
     let w = topped x in
-    says _ (loop (y .first-lost .result)) (verdict-loop (list w) (tiny w) (fine (checked w)) (w .wide .result) (first-is w) (x .before .before .if2 .left) (x .wide2 .result) (next-is x) (o .if3 .left) (y .first-lost .result) (y .first-lost .ensures .1))
+    says _ (loop (y .first-lost .result)) (verdict-loop (list w) (tiny w) (fine (checked w)) (w .wide2 .result) (first-is w) (x .before .before .if2 .left) (x .wide3 .result) (next-is x) (o .if3 .left) (y .first-lost .result) (y .first-lost .ensures .1))
 
 returns-5 : tie.Need-returns-5
 returns-5 c =
@@ -80,16 +80,16 @@ returns-5 c =
     let o = k .before .before in
     let x = o .before in
     let w = topped x in
-    says _ (accepted (length (list w))) (verdict-whole (list w) (tiny w) (fine (checked w)) (w .wide .result) (first-is w) (x .before .before .if2 .left) (x .wide2 .result) (next-is x) (o .if3 .left) (k .walk .result) (k .walk .ensures .0) (order-short (list w) (tiny w)) (c .if4 .left))
+    says _ (accepted (length (list w))) (verdict-whole (list w) (tiny w) (fine (checked w)) (w .wide2 .result) (first-is w) (x .before .before .if2 .left) (x .wide3 .result) (next-is x) (o .if3 .left) (k .walk .result) (k .walk .ensures .0) (order-short (list w) (tiny w)) (c .if4 .left))
 
 pub faults-spec : {M : Type 1} → statement M
 faults-spec =
     tie.close
     (tie.spec
     (λ c κs. search needs)
-    (λ c. search needs)
+    (λ c κs. search needs)
     returns
-    (λ c κs. let s = start (c .before .before) in (s .pre .0, s .pre .1, no-stray (s .args .parents .now) (fine (c .before))))
+    (λ c κs. let s = start (c .before .before .before) in (s .pre .0, s .pre .1, no-stray (s .args .parents .now) (fine (c .before))))
     (λ c κs. search needs)
     (λ c. search needs)
     (λ c. search needs)

@@ -6,7 +6,7 @@ use Prim.Native.Nat.{_+_, _*_, _-_, _≤_, _<_}
 use native.Mathlib.Omega.{arith}
 use borrow.Author.Needs.{needs}
 use borrow.Rule.Slice.PartMut.{mid-len, same-len-mid, postOf}
-use lib.ListN.{length, getD, take, replicate, length-set}
+use lib.ListN.{length, take, replicate, length-set}
 use Rattle.tree.specs.Parents.{topMark, word}
 use Rattle.prepare.specs.Regions.{Linked, heads, nexts, view}
 use Rattle.prepare.proofs.Chains.{from-end, link-below-in, link-top-in}
@@ -16,7 +16,7 @@ use Rattle.prepare.proofs.link.link.Tie as tie
 
 abbrev Inv-loop : tie.InvT-loop
 Inv-loop parents space₀ n a b first₀ i₀ space first i =
-    (n ≡ length parents) × (a ≡ 2 * length parents) × (b ≡ 3 * length parents) × (i ≤ n) × (length space ≡ 6 * length parents) × Linked parents i (heads parents space) (nexts parents space) first
+    (n ≡ length parents) × (a ≡ 2 * length parents) × (b ≡ 3 * length parents) × (i ≤ n) × (6 * length parents ≤ length space) × Linked parents i (heads parents space) (nexts parents space) first × (length space ≡ length space₀)
 
 abbrev μ-loop : tie.MeasureT-loop
 μ-loop parents space₀ n a b first₀ i₀ space first i = i
@@ -39,12 +39,13 @@ loop-holds c =
       t,
       omega arith,
       omega arith,
-      same-len-mid (length ps * 2) (length ps * 3 - length ps * 2) xs ys (f .fill .kept .0) ∙ s .pre .1,
+      omega (arith, same-len-mid (length ps * 2) (length ps * 3 - length ps * 2) xs ys (f .fill .kept .0)),
       record {
         heads = λ v h. rw back (filled-at ys (length ps) topMark v all (omega arith) ∙ rw (from-end ps (length ps) v (omega arith)));
         nexts = λ j h k. absurd (omega arith);
         tops = rw (from-end ps (length ps) topMark (omega arith));
       },
+      refl,
     )
 
 abbrev start : tie.At-loop Inv-loop μ-loop → tie.Start Inv-loop μ-loop
@@ -62,6 +63,7 @@ loop-again c =
       omega arith,
       simp length-set (l .inv .4),
       link-below-in ps (l .space) (omega arith) (l .inv .4) (l .i) (l .i - 1) (length ps * 2 + q) (length ps * 3 + (l .i - 1)) q (l .first) (omega arith) (omega arith) (omega arith) (omega arith) (c .before .before .wide .ensures) (c .before .if1 .taken) (l .inv .5),
+      simp length-set (l .inv .6),
     )
 
 loop-again-2 : tie.Need-loop-again-2 Inv-loop μ-loop
@@ -79,7 +81,15 @@ loop-again-2 c =
       omega arith,
       simp length-set (l .inv .4),
       link-top-in ps (l .space) (omega arith) (l .inv .4) (l .i) (l .i - 1) (length ps * 3 + (l .i - 1)) (l .first) (omega arith) below (omega arith) own (l .inv .5),
+      simp length-set (l .inv .6),
     )
+
+same-length : tie.Need-same-length Inv-loop μ-loop
+same-length c =
+    let b = c .before in
+    let f = b .before .before .before in
+    let n = length (start b .args .parents .now) in
+    b .loop .inv .6 ∙ same-len-mid (n * 2) (n * 3 - n * 2) (start b .args .space .now) (f .fill .last .0) (f .fill .kept .0)
 
 returns : tie.Need-returns Inv-loop μ-loop
 returns c =
@@ -123,5 +133,5 @@ link-spec =
     (λ c. search needs)
     (λ c. search needs)
     loop-again-2
-    (λ c. search needs)
+    same-length
     returns)

@@ -1,7 +1,7 @@
 -- `lost::first_lost` meets its contract. Assumes nothing.
 use mathlib.Core.Path.{_≡_, ap, _∙_}
 use mathlib.Core.List.{List}
-use Prim.Native.Nat.{ℕ, _*_, _-_}
+use Prim.Native.Nat.{ℕ, _*_, _-_, _≤_}
 use native.Mathlib.Omega.{arith}
 use borrow.Author.Needs.{needs}
 use lib.ListN.{length, take, drop}
@@ -22,7 +22,7 @@ returns c =
     let t : length ps * 5 ≡ 5 * length ps = omega arith in
     let part : List ℕ = take (length ps * 6 - length ps * 5) (drop (length ps * 5) xs) in
     let same : part ≡ view (5 * length ps) (length ps) xs = rw (n, t) in
-    let full : length xs ≡ 6 * length ps = g .mark .kept .1 .1 .0 ∙ s .pre .1 in
+    let full : 6 * length ps ≤ length xs = omega (arith, g .mark .kept .1 .1 .0) in
     let long : length part ≡ length ps = ap length same ∙ view-length (5 * length ps) (length ps) xs (omega arith) in
     let marked : Marked ps part = rw same (g .mark .ensures) in
     lost-is ps (omega arith) part long marked (c .first-unmarked .result) (omega arith) (c .first-unmarked .ensures)

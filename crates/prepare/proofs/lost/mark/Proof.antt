@@ -16,7 +16,7 @@ use Rattle.prepare.proofs.lost.mark.Tie as tie
 
 abbrev Inv-loop : tie.InvT-loop
 Inv-loop parents count space₀ n a b i₀ space i =
-    (a ≡ 5 * length parents) × (i ≤ count) × (length space ≡ 6 * length parents) × (view 0 count space ≡ order parents) × Marking parents i (view (5 * length parents) (length parents) space)
+    (a ≡ 5 * length parents) × (i ≤ count) × (6 * length parents ≤ length space) × (view 0 count space ≡ order parents) × Marking parents i (view (5 * length parents) (length parents) space) × (length space ≡ length space₀)
 
 abbrev μ-loop : tie.MeasureT-loop
 μ-loop parents count space₀ n a b i₀ space i = count - i
@@ -38,9 +38,10 @@ loop-holds c =
     in (
       t,
       omega arith,
-      same-len-mid (length ps * 5) (length ps * 6 - length ps * 5) xs ys (f .fill .kept .0) ∙ s .pre .1,
+      omega (arith, same-len-mid (length ps * 5) (length ps * 6 - length ps * 5) xs ys (f .fill .kept .0)),
       view-other (length ps * 5) 0 (s .args .count) xs rest (omega (arith, order-short ps (omega arith))) (omega arith) ∙ s .pre .3,
       rw back (mark-none ps (omega arith) ys (λ v h. filled-at ys (length ps) 0 v all (omega arith))),
+      refl,
     )
 
 abbrev start : tie.At-loop Inv-loop μ-loop → tie.Start Inv-loop μ-loop
@@ -66,7 +67,15 @@ loop-again c =
       simp length-set (l .inv .2),
       order-kept ps (l .space) (omega arith) (l .inv .2) (s .args .count) (l .i) (omega arith) (s .pre .2) (l .inv .3) q e,
       mark-in ps (l .space) (omega arith) (l .inv .2) (s .args .count) (l .i) (omega arith) (s .pre .2) (l .inv .3) q e (l .inv .4),
+      simp length-set (l .inv .5),
     )
+
+same-length : tie.Need-same-length Inv-loop μ-loop
+same-length c =
+    let b = c .before in
+    let f = b .before .before .before in
+    let n = length (start b .args .parents .now) in
+    b .loop .inv .5 ∙ same-len-mid (n * 5) (n * 6 - n * 5) (start b .args .space .now) (f .fill .last .0) (f .fill .kept .0)
 
 returns : tie.Need-returns Inv-loop μ-loop
 returns c =
@@ -96,5 +105,5 @@ mark-spec =
     (λ c. search needs)
     (λ c. search needs)
     loop-again
-    (λ c. search needs)
+    same-length
     returns)

@@ -30,5 +30,7 @@ first-stray-spec =
     (λ c. search needs)
     (λ c. search needs)
     (λ c. let b = c .before .before .before .before .before in pass-more _ _ _ (omega arith) (top-fine _ _ (c .if2 .taken)) (b .loop .inv))
+    (λ c. search needs)
     (λ c. let b = c .before .before .before .before .before in pass-hit _ _ _ (omega arith) (other-stray _ _ (rw (c .before .before .wide .ensures) at (c .before .if1 .left)) (c .if2 .left)) (b .loop .inv))
+    (λ c. search needs)
     (λ c. pass-end _ _ _ (c .loop-test .left) (c .before .loop .inv)))

@@ -1,21 +1,19 @@
 -- `walk::walk` meets its contract. What is written and what the pending chains give is the preorder. Assumes nothing.
 use mathlib.Core.Path.{_≡_, refl, sym, ap, _∙_}
-use mathlib.Core.List.{List, [], _∷_}
+use mathlib.Core.List.{_∷_}
 use Prim.Native.Nat.{_+_, _*_, _-_, _≤_, _<_}
 use native.Mathlib.Omega.{arith}
-use native.Mathlib.Numerals.{add-one}
 use borrow.Author.Needs.{needs}
-use lib.ListN.{length, getD, drop, length-set, drop-of-length-le}
-use lib.Seq.{drop-cons}
+use lib.ListN.{length, length-set}
 use Rattle.prepare.specs.Regions.{Linked, heads, nexts, view}
 use Rattle.prepare.proofs.Pending.{Walked, walk-start, walk-skip, walk-end, room-in, linked-in, emit-in}
-use Rattle.prepare.proofs.Views.{view-none, view-length}
+use Rattle.prepare.proofs.Views.{view-none, view-length, view-pop}
 use Rattle.prepare.proofs.walk.walk.Statement.{statement}
 use Rattle.prepare.proofs.walk.walk.Tie as tie
 
 abbrev Inv-loop : tie.InvT-loop
 Inv-loop parents first space₀ n top count₀ sp₀ cur₀ space count sp cur =
-    (n ≡ length parents) × (top ≡ 6 * length parents) × (count ≤ n) × (5 * n ≤ sp) × (sp ≤ top) × (top ≤ sp + count) × (length space ≡ 6 * length parents) × Linked parents 0 (heads parents space) (nexts parents space) first × Walked parents (view 0 count space) (view (length parents) count space) (cur ∷ drop sp space)
+    (n ≡ length parents) × (top ≡ 5 * length parents) × (count ≤ n) × (4 * n ≤ sp) × (sp ≤ top) × (top ≤ sp + count) × (6 * length parents ≤ length space) × Linked parents 0 (heads parents space) (nexts parents space) first × Walked parents (view 0 count space) (view (length parents) count space) (cur ∷ view sp (5 * length parents - sp) space) × (length space ≡ length space₀)
 
 abbrev μ-loop : tie.MeasureT-loop
 μ-loop parents first space₀ n top count₀ sp₀ cur₀ space count sp cur = 2 * (n - count) + (top - sp)
@@ -28,8 +26,8 @@ loop-holds c =
     let s = c .before .before .before in
     let ps = s .args .parents .now in
     let xs = s .args .space .now in
-    let e : drop (length ps * 6) xs ≡ [] = drop-of-length-le xs {i = length ps * 6} (omega arith) in
-    (refl, omega arith, omega arith, omega arith, omega arith, omega arith, s .pre .1, s .pre .2, rw (view-none 0 0 xs, view-none (length ps) 0 xs, e) (walk-start ps (omega arith) (c .wide .result) (c .wide .ensures ∙ s .pre .2 .tops)))
+    let e : 5 * length ps - length ps * 5 ≡ 0 = omega arith in
+    (refl, omega arith, omega arith, omega arith, omega arith, omega arith, s .pre .1, s .pre .2, rw (e, view-none 0 0 xs, view-none (length ps) 0 xs, view-none (length ps * 5) 0 xs) (walk-start ps (omega arith) (c .wide .result) (c .wide .ensures ∙ s .pre .2 .tops)), refl)
 
 room : (c : tie.Then1 Inv-loop μ-loop) → c .before .loop .count < length (start (c .before) .args .parents .now)
 room c =
@@ -44,23 +42,24 @@ loop-again c =
     let s = start (t .before) in
     let ps = s .args .parents .now in
     let r = room t in
-    let lk = linked-in ps (l .space) (omega arith) (l .inv .6) (s .args .first) (l .inv .7) (l .count) (l .sp) (l .cur) (omega arith) (omega arith) (omega arith) (omega arith) (omega arith) (l .inv .8) (length ps + l .count) (length ps * 6 - l .sp) (l .sp - 1) (length ps * 2 + l .cur) (length ps * 3 + l .cur) refl (omega arith) (omega arith) (omega arith) (omega arith) in
-    let em = emit-in ps (l .space) (omega arith) (l .inv .6) (s .args .first) (l .inv .7) (l .count) (l .sp) (l .cur) (omega arith) (omega arith) (omega arith) (omega arith) (omega arith) (l .inv .8) (length ps + l .count) (length ps * 6 - l .sp) (l .sp - 1) (length ps * 2 + l .cur) (length ps * 3 + l .cur) refl (omega arith) (omega arith) (omega arith) (omega arith) in
-    (l .inv .0, l .inv .1, omega arith, omega arith, omega arith, omega arith, simp length-set (l .inv .6), lk, rw (c .wide2 .ensures) em)
+    let lk = linked-in ps (l .space) (omega arith) (l .inv .6) (s .args .first) (l .inv .7) (l .count) (l .sp) (l .cur) (omega arith) (omega arith) (omega arith) (omega arith) (omega arith) (l .inv .8) (length ps + l .count) (length ps * 5 - l .sp) (l .sp - 1) (length ps * 2 + l .cur) (length ps * 3 + l .cur) refl (omega arith) (omega arith) (omega arith) (omega arith) in
+    let em = emit-in ps (l .space) (omega arith) (l .inv .6) (s .args .first) (l .inv .7) (l .count) (l .sp) (l .cur) (omega arith) (omega arith) (omega arith) (omega arith) (omega arith) (l .inv .8) (length ps + l .count) (length ps * 5 - l .sp) (l .sp - 1) (length ps * 2 + l .cur) (length ps * 3 + l .cur) refl (omega arith) (omega arith) (omega arith) (omega arith) in
+    (l .inv .0, l .inv .1, omega arith, omega arith, omega arith, omega arith, simp length-set (l .inv .6), lk, rw (c .wide2 .ensures) em, simp length-set (l .inv .9))
 
 returns : tie.Need-returns Inv-loop μ-loop
 returns c =
     let b = c .before .before in
     let l = b .loop in
     let ps = start b .args .parents .now in
-    let e : drop (l .sp) (l .space) ≡ [] = drop-of-length-le (l .space) {i = l .sp} (omega arith) in
-    let (o, d) = walk-end ps (omega arith) _ _ (walk-skip ps (omega arith) _ _ _ (l .cur) (omega arith) (rw e at (l .inv .8))) in
+    let e : 5 * length ps - l .sp ≡ 0 = omega arith in
+    let (o, d) = walk-end ps (omega arith) _ _ (walk-skip ps (omega arith) _ _ _ (l .cur) (omega arith) (rw (e, view-none (l .sp) 0 (l .space)) at (l .inv .8))) in
     (sym (view-length 0 (l .count) (l .space) (omega arith)) ∙ ap length o, o, d)
 
 loop-again-2 : tie.Need-loop-again-2 Inv-loop μ-loop
 loop-again-2 c =
     let b = c .before .before .before .before in
-    let l = b .loop in (
+    let l = b .loop in
+    let ps = start b .args .parents .now in (
       l .inv .0,
       l .inv .1,
       omega arith,
@@ -69,7 +68,8 @@ loop-again-2 c =
       omega arith,
       l .inv .6,
       l .inv .7,
-      rw (c .wide3 .ensures, add-one, ← drop-cons (l .space) (l .sp) 0 (omega arith)) (walk-skip _ (omega arith) _ _ _ (l .cur) (omega arith) (l .inv .8)),
+      rw (c .wide3 .ensures, ← view-pop (l .sp) (5 * length ps) (l .space) (omega arith) (omega arith)) (walk-skip _ (omega arith) _ _ _ (l .cur) (omega arith) (l .inv .8)),
+      l .inv .9,
     )
 
 pub walk-spec : {M : Type 1} → statement M
