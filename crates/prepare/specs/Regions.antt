@@ -8,6 +8,7 @@ use Prim.Native.Nat.{ℕ, suc, _*_, _≤_, _<_}
 use lib.ListN.{length, getD, take, drop}
 use Rattle.base.specs.Lists.{places}
 use Rattle.tree.specs.Parents.{topMark, word}
+use Rattle.tree.specs.Forest.{order, whole, levels}
 use Rattle.tree.specs.Faults.{meetsTop}
 
 -- the number found, or n where there is none
@@ -51,3 +52,8 @@ pub record Linked (ps : List ℕ) (i : ℕ) (head next : List ℕ) (r : ℕ) : T
 -- `marks` has 1 for each entry whose climb meets the top, and else 0
 abbrev pub Marked : List ℕ → List ℕ → Type 0
 Marked ps marks = (v : ℕ) → v < length ps → getD marks v 0 ≡ cond (meetsTop ps v) 1 0
+
+-- regions 0 and 1 hold the preorder, and the depths in that order
+pub record Ordered (ps space : List ℕ) : Type 0 where
+  pub orders : view 0 (length ps) space ≡ order ps
+  pub depths : view (length ps) (length ps) space ≡ levels 0 (whole ps)

@@ -1,6 +1,8 @@
-// What turns a list away: 4 to 6, in that order.
+// What turns a list away: 4 to 6, in that order. A list that passes leaves its preorder in region 0 and the depths in region 1.
+ghost use mathlib.Core.Path.{_≡_};
 ghost use Prim.Native.Nat.{_*_, _≤_};
 ghost use lib.ListN.{length};
+ghost use Rattle.prepare.specs.Regions.{Ordered};
 ghost use Rattle.prepare.specs.Verdict.{verdict, Says};
 use crate::Judged;
 use crate::link::link;
@@ -11,7 +13,8 @@ use crate::words::wide;
 
 pub(crate) fn faults(parents: &[u32], space: &mut [u32]) -> Judged
     requires { ⌜ (length (now parents) ≤ 1048576) × (6 * length (now parents) ≤ length (now space)) ⌝ }
-    ensures { λ r. ⌜ Says (verdict (now (parents .entry))) (r .number) (r .word) ⌝ }
+    ensures answer { λ r. ⌜ Says (verdict (now (parents .entry))) (r .number) (r .word) ⌝ }
+    ensures walked { λ r. ⌜ (r .number ≡ 0 → Ordered (now (parents .entry)) (now (space .exit))) ⌝ }
 {
     let n = parents.len();
     let s = first_stray(parents);

@@ -48,7 +48,7 @@ returns-4 c =
     let room : length ps * 6 ≤ length xs = omega (arith, o .if3 .left) in
     let same : length ys ≡ length ps * 6 - 0 = f .faults .kept .1 .0 ∙ mid-len 0 (length ps * 6) xs room in
     let (a, b) = judging-rest ps xs (lend-fine (length ps) (length xs) (o .before .before .if1 .left) (o .before .if2 .left) (omega arith)) in (
-      rw a (f .faults .ensures),
+      rw a (f .faults .ensures .0),
       k .clear .ensures
           ∙ ap (λ l. replicate (length ps * 6) 0 ++ l) (drop-put 0 (length ps * 6) xs ys (omega arith) room same)
           ∙ ap (λ m. replicate m 0 ++ drop m xs) z

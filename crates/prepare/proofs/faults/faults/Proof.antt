@@ -53,18 +53,18 @@ returns : tie.Need-returns
 returns c =
     let f = c .before .before in
     let ps = listed f in
-    says _ (stray (f .first-stray .result)) (verdict-stray ps (omega arith) (f .first-stray .result) (found-some (isStray ps) (length ps) (f .first-stray .result) (f .first-stray .ensures) (rw (c .before .wide .ensures) at (c .if1 .taken))))
+    (says _ (stray (f .first-stray .result)) (verdict-stray ps (omega arith) (f .first-stray .result) (found-some (isStray ps) (length ps) (f .first-stray .result) (f .first-stray .ensures) (rw (c .before .wide .ensures) at (c .if1 .taken)))), λ z. absurd (omega arith))
 
 returns-2 : tie.Need-returns-2
 returns-2 c =
     let w = c .before in
-    says _ (tops (length (list w))) (verdict-none (list w) (tiny w) (fine (checked w)) (w .wide2 .result) (first-is w) (c .if2 .taken))
+    (says _ (tops (length (list w))) (verdict-none (list w) (tiny w) (fine (checked w)) (w .wide2 .result) (first-is w) (c .if2 .taken)), λ z. absurd (omega arith))
 
 returns-3 : tie.Need-returns-3
 returns-3 c =
     let x = c .before in
     let w = topped x in
-    says _ (tops (x .wide3 .result)) (verdict-two (list w) (tiny w) (fine (checked w)) (w .wide2 .result) (first-is w) (x .before .before .if2 .left) (x .wide3 .result) (next-is x) (c .if3 .taken))
+    (says _ (tops (x .wide3 .result)) (verdict-two (list w) (tiny w) (fine (checked w)) (w .wide2 .result) (first-is w) (x .before .before .if2 .left) (x .wide3 .result) (next-is x) (c .if3 .taken)), λ z. absurd (omega arith))
 
 returns-4 : tie.Need-returns-4
 returns-4 c =
@@ -72,7 +72,7 @@ returns-4 c =
     let o = y .before .before .before .before .before .before .before in
     let x = o .before in
     let w = topped x in
-    says _ (loop (y .first-lost .result)) (verdict-loop (list w) (tiny w) (fine (checked w)) (w .wide2 .result) (first-is w) (x .before .before .if2 .left) (x .wide3 .result) (next-is x) (o .if3 .left) (y .first-lost .result) (y .first-lost .ensures .1))
+    (says _ (loop (y .first-lost .result)) (verdict-loop (list w) (tiny w) (fine (checked w)) (w .wide2 .result) (first-is w) (x .before .before .if2 .left) (x .wide3 .result) (next-is x) (o .if3 .left) (y .first-lost .result) (y .first-lost .ensures .1)), λ z. absurd (omega arith))
 
 returns-5 : tie.Need-returns-5
 returns-5 c =
@@ -80,7 +80,9 @@ returns-5 c =
     let o = k .before .before in
     let x = o .before in
     let w = topped x in
-    says _ (accepted (length (list w))) (verdict-whole (list w) (tiny w) (fine (checked w)) (w .wide2 .result) (first-is w) (x .before .before .if2 .left) (x .wide3 .result) (next-is x) (o .if3 .left) (k .walk .result) (k .walk .ensures .0) (order-short (list w) (tiny w)) (c .if4 .left))
+    let whole = order-short (list w) (tiny w) in
+    let z : k .walk .result ≡ length (list w) = omega (arith, k .walk .ensures .0, c .if4 .left) in
+    (says _ (accepted (length (list w))) (verdict-whole (list w) (tiny w) (fine (checked w)) (w .wide2 .result) (first-is w) (x .before .before .if2 .left) (x .wide3 .result) (next-is x) (o .if3 .left) (k .walk .result) (k .walk .ensures .0) whole (c .if4 .left)), λ e. record { orders = rw z at (k .walk .ensures .1); depths = rw z at (k .walk .ensures .2) })
 
 pub faults-spec : {M : Type 1} → statement M
 faults-spec =
