@@ -1,0 +1,2 @@
+-- How the passes over the preorder fill their sections.
+pub mod Spreading

@@ -1,0 +1,2 @@
+// One function for each section of the table, from arrays by preorder position.
+pub mod spread;
