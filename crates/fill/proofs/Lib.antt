@@ -1,2 +1,3 @@
 -- How the passes over the preorder fill their sections.
 pub mod Spreading
+pub mod Laddering

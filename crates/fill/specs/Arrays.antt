@@ -1,12 +1,15 @@
 -- Arrays by preorder position, and the sections that a pass over them leaves. Assumes nothing.
 use mathlib.Core.Path.{_≡_}
-use mathlib.Core.List.{List, map}
+use mathlib.Core.List.{List, map, flatten}
+use mathlib.Core.Option.{Option·elim}
 use Prim.Native.Nat.{ℕ, _≤_, _<_}
 use lib.ListN.{length, getD}
 use Rattle.base.specs.Limits.{mostEntries}
 use Rattle.base.specs.Lists.{below}
-use Rattle.tree.specs.Forest.{order, position}
+use Rattle.tree.specs.Parents.{topMark, parent, depth}
+use Rattle.tree.specs.Forest.{height, order, position, longChild}
 use Rattle.tree.specs.Faults.{Tree}
+use Rattle.table.specs.Ladders.{pathTops, ladders, ladPos}
 
 -- words that are all below the length of a section, one for each of its cells
 pub record Indexes (order cells : List ℕ) : Type 0 where
@@ -21,3 +24,29 @@ Scattered ord values cells =
 -- PRE
 unfoldable pub Placed : List ℕ → List ℕ → Type 0
 Placed ord cells = (ps : List ℕ) → length ps ≤ mostEntries → Tree ps → ord ≡ order ps → cells ≡ below (length ps) (position ps)
+
+-- the position of the entry above v, and of the child to which its long path continues, or the top mark
+unfoldable pub abovePosition : List ℕ → ℕ → ℕ
+abovePosition ps v = Option·elim (parent ps v) topMark (position ps)
+
+unfoldable pub longPosition : List ℕ → ℕ → ℕ
+longPosition ps v = Option·elim (longChild ps v) topMark (position ps)
+
+-- LONG and ABOVE of a list that forms one tree
+pub record Paths (ps long above : List ℕ) : Type 0 where
+  pub few : length ps ≤ mostEntries
+  pub tree : Tree ps
+  pub longs : long ≡ map (longPosition ps) (order ps)
+  pub aboves : above ≡ map (abovePosition ps) (order ps)
+
+-- with DEPTH and HEIGHT
+pub record Runs (ps deep high long above : List ℕ) : Type 0 where
+  pub paths : Paths ps long above
+  pub depths : deep ≡ map (depth ps) (order ps)
+  pub heights : high ≡ map (height ps) (order ps)
+
+-- LADPOS by position, with the numbers of long paths and of the words of their ladders
+pub record Laid (ps : List ℕ) (paths words : ℕ) (places : List ℕ) : Type 0 where
+  pub paths-are : paths ≡ length (pathTops ps)
+  pub words-are : words ≡ length (flatten (ladders ps))
+  pub places-are : places ≡ map (ladPos ps) (order ps)

@@ -1,2 +1,3 @@
 // One function for each section of the table, from arrays by preorder position.
+pub mod laying;
 pub mod spread;

@@ -1,0 +1,68 @@
+// LADPOS and LADDERS.
+ghost use mathlib.Core.Path.{_≡_};
+ghost use mathlib.Core.List.{List};
+ghost use Prim.Native.Nat.{ℕ, _<_, min};
+ghost use lib.ListN.{length, getD};
+ghost use Rattle.tree.specs.Forest.{order, pathTop};
+ghost use Rattle.fill.specs.Arrays.{Paths, Runs, Laid};
+use base::Position;
+
+fn lesser(a: u32, b: u32) -> u32
+    ensures { λ r. ⌜ r ≡ min a b ⌝ }
+{
+    if a < b {
+        return a;
+    }
+    b
+}
+
+// Whether a long path starts at a position.
+fn path_top(long: &[u32], above: &[u32], at: Position) -> bool
+    requires { ⌜ ((ps : List ℕ) × Paths ps (now long) (now above)) × (at .0 < length (now above)) ⌝ }
+    ensures { λ r. ⌜ ((ps : List ℕ) → Paths ps (now (long .entry)) (now (above .entry)) → r ≡ pathTop ps (getD (order ps) (at .0) 0)) ⌝ }
+{
+    if at.0 == 0 {
+        return true;
+    }
+    let over = Position(above[at.0 as usize]);
+    if long[over.0 as usize] == at.0 {
+        return false;
+    }
+    true
+}
+
+// The long paths, and the words of their ladders.
+pub struct Ladders {
+    pub paths: u32,
+    pub words: u32,
+}
+
+// LADPOS by position: behind all ladders so far and the path's nearest ancestors, or behind the entry above.
+pub fn ladder_places(
+    depth: &[u32],
+    height: &[u32],
+    long: &[u32],
+    above: &[u32],
+    places: &mut [u32],
+) -> Ladders
+    requires { ⌜ ((ps : List ℕ) × Runs ps (now depth) (now height) (now long) (now above)) × (length (now places) ≡ length (now depth)) ⌝ }
+    ensures { λ r. ⌜ ((ps : List ℕ) → Runs ps (now (depth .entry)) (now (height .entry)) (now (long .entry)) (now (above .entry)) → Laid ps (r .paths) (r .words) (now (places .exit))) ⌝ }
+{
+    let mut paths: u32 = 0;
+    let mut words: u32 = 0;
+    let mut i: usize = 0;
+    while i < depth.len() {
+        let at = i;
+        i += 1;
+        if path_top(long, above, Position(at as u32)) {
+            let own = words + lesser(height[at], depth[at]);
+            places[at] = own;
+            words = own + height[at];
+            paths += 1;
+        } else {
+            let over = Position(above[at]);
+            places[at] = places[over.0 as usize] + 1;
+        }
+    }
+    Ladders { paths, words }
+}
