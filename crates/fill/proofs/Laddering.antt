@@ -7,7 +7,6 @@ use Prim.Native.Nat.{ℕ, zero, suc, _+_, _*_, _≤_, _<_, min}
 use native.Mathlib.Omega.{arith}
 use native.Mathlib.Numerals.{add-one}
 use lib.ListN.{length, getD, set, take, length-append, length-map, length-take}
-use lib.Seq.{ext-getD}
 use Rattle.base.specs.Limits.{mostEntries}
 use Rattle.base.proofs.Keeping.{keep-most}
 use Rattle.tree.specs.Parents.{parent, depth}
@@ -23,7 +22,7 @@ use Rattle.climbs.proofs.Ladders.{rise, rungsWithin, ladpos-next, ladpos-in}
 use Rattle.climbs.proofs.Room.{ladders-fit, paths-few}
 use Rattle.climbs.proofs.Running.{tops-more, tops-same, tops-none, tops-all, rungs-more, rungs-same, rungs-none, rungs-all, rungs-fit, ladpos-met}
 use Rattle.fill.specs.Arrays.{abovePosition, longPosition, Paths, Runs, Laid}
-use Rattle.fill.proofs.Spreading.{array-at, Ran, ran-none, ran-more}
+use Rattle.fill.proofs.Spreading.{array-at, Ran, ran-none, ran-more, ran-map}
 
 -- the entry above v, which stands earlier
 pub record Over (ps : List ℕ) (v : ℕ) : Type 0 where
@@ -144,13 +143,10 @@ module _ (ps deep high long above : List ℕ) (r : Runs ps deep high long above)
   pub lay-end : (i paths words : ℕ) (places : List ℕ) → i ≡ length deep → Laying ps old i paths words places → Laid ps paths words places
   lay-end i paths words places e l =
       let n : i ≡ length ps = omega (arith, deep-length) in
-      let m : length (map (ladPos ps) (order ps)) ≡ length ps = array-length ps few tree (ladPos ps) _ refl in
       record {
         paths-are = l .paths-are ∙ ap (λ j. length (topsWithin ps j)) n ∙ ap length (tops-all ps (omega (arith, few)) tree);
         words-are = l .words-are ∙ ap (rungsWithin ps) n ∙ rungs-all ps (omega (arith, few)) tree;
-        places-are = ext-getD 0 places (map (ladPos ps) (order ps)) (omega (arith, l .placed .0)) (λ k h.
-            let b : k < length ps = omega (arith, l .placed .0) in
-            l .placed .1 k (omega arith) ∙ sym (array-at ps few tree (ladPos ps) k b));
+        places-are = ran-map ps few tree (ladPos ps) old i places (room ∙ deep-length) (omega arith) (l .placed);
       }
 
   module _ (i paths words : ℕ) (places : List ℕ) (h : i < length deep) (l : Laying ps old i paths words places) where

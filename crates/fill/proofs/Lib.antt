@@ -1,3 +1,4 @@
 -- How the passes over the preorder fill their sections.
 pub mod Spreading
 pub mod Laddering
+pub mod Kinding

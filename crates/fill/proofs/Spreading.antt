@@ -82,3 +82,11 @@ ran-more g old i cells x h e r =
 
 pub ran-all : (l old : List ℕ) (i : ℕ) (cells : List ℕ) → length l ≡ length old → length l ≤ i → Ran (λ k. getD l k 0) old i cells → cells ≡ l
 ran-all l old i cells n h r = ext-getD 0 cells l (omega (arith, r .0)) (λ k b. r .1 k (omega (arith, r .0)))
+
+-- and once all of them are written, an array by position is the map of its function over the preorder
+pub ran-map : (ps : List ℕ) → length ps ≤ mostEntries → Tree ps → (f : ℕ → ℕ) (old : List ℕ) (i : ℕ) (cells : List ℕ)
+    → length old ≡ length ps → length ps ≤ i → Ran (λ k. f (getD (order ps) k 0)) old i cells → cells ≡ map f (order ps)
+ran-map ps few tree f old i cells n h r =
+    let m : length (map f (order ps)) ≡ length ps = length-map (order ps) f ∙ order-length ps (omega arith) tree in
+    ext-getD 0 cells (map f (order ps)) (omega (arith, r .0)) (λ k b.
+        r .1 k (omega (arith, r .0)) ∙ sym (array-at ps few tree f k (omega (arith, r .0))))

@@ -4,12 +4,13 @@ use mathlib.Core.List.{List, map, flatten}
 use mathlib.Core.Option.{Option·elim}
 use Prim.Native.Nat.{ℕ, _≤_, _<_}
 use lib.ListN.{length, getD}
-use Rattle.base.specs.Limits.{mostEntries}
+use Rattle.base.specs.Limits.{mostEntries, groupLimit}
 use Rattle.base.specs.Lists.{below}
 use Rattle.tree.specs.Parents.{topMark, parent, depth}
-use Rattle.tree.specs.Forest.{height, order, position, longChild}
+use Rattle.tree.specs.Forest.{size, height, order, position, longChild}
 use Rattle.tree.specs.Faults.{Tree}
 use Rattle.table.specs.Ladders.{pathTops, ladders, ladPos}
+use Rattle.table.specs.Groups.{groupRoots, jumpNodes, kind}
 
 -- words that are all below the length of a section, one for each of its cells
 pub record Indexes (order cells : List ℕ) : Type 0 where
@@ -50,3 +51,16 @@ pub record Laid (ps : List ℕ) (paths words : ℕ) (places : List ℕ) : Type 0
   pub paths-are : paths ≡ length (pathTops ps)
   pub words-are : words ≡ length (flatten (ladders ps))
   pub places-are : places ≡ map (ladPos ps) (order ps)
+
+-- SIZE and ABOVE of a list that forms one tree
+pub record Families (ps sizes above : List ℕ) : Type 0 where
+  pub few : length ps ≤ mostEntries
+  pub tree : Tree ps
+  pub sizes-are : sizes ≡ map (size ps) (order ps)
+  pub aboves : above ≡ map (abovePosition ps) (order ps)
+
+-- KIND by position, with the numbers of groups and of jump entries
+pub record Kinded (ps : List ℕ) (groups jumps : ℕ) (kinds : List ℕ) : Type 0 where
+  pub groups-are : groups ≡ length (groupRoots groupLimit ps)
+  pub jumps-are : jumps ≡ length (jumpNodes groupLimit ps)
+  pub kinds-are : kinds ≡ map (kind groupLimit ps) (order ps)
