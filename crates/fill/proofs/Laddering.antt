@@ -40,9 +40,12 @@ module _ (ps : List ℕ) (few : length ps ≤ mostEntries) (tree : Tree ps) wher
   pub array-word : (f : ℕ → ℕ) (l : List ℕ) → l ≡ map f (order ps) → (i : ℕ) → i < length ps → getD l i 0 ≡ f (getD (order ps) i 0)
   array-word f l e i h = ap (λ w. getD w i 0) e ∙ array-at ps few tree f i h
 
-  pub over-of : (v p : ℕ) → parent ps v ≡ some p → Over ps v
+  pub above-parent : (v p : ℕ) → parent ps v ≡ some p → abovePosition ps v ≡ position ps p
   unfolding abovePosition Option·elim
-  over-of v p e = record { over = p; parent-is = e; inside = parent-some ps v p e .1; word = rw e; earlier = parent-before ps (omega arith) tree v p e }
+  above-parent v p e = rw e
+
+  pub over-of : (v p : ℕ) → parent ps v ≡ some p → Over ps v
+  over-of v p e = record { over = p; parent-is = e; inside = parent-some ps v p e .1; word = above-parent v p e; earlier = parent-before ps (omega arith) tree v p e }
 
   -- every position but the first has an entry above
   pub over-at : (i : ℕ) → 0 < i → i < length ps → Over ps (getD (order ps) i 0)

@@ -2,3 +2,4 @@
 pub mod Spreading
 pub mod Laddering
 pub mod Kinding
+pub mod Rising

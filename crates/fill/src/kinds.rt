@@ -2,17 +2,16 @@
 ghost use mathlib.Core.Path.{_≡_};
 ghost use mathlib.Core.List.{List};
 ghost use Prim.Native.Nat.{ℕ, _<_};
-ghost use lib.ListN.{length, getD};
+ghost use lib.ListN.{length};
 ghost use Rattle.base.specs.Limits.{groupLimit};
-ghost use Rattle.tree.specs.Forest.{order};
 ghost use Rattle.table.specs.Groups.{groupRoot};
-ghost use Rattle.fill.specs.Arrays.{Families, Kinded};
+ghost use Rattle.fill.specs.Arrays.{entryAt, Families, Kinded};
 use base::Position;
 
 // Whether the root of a group stands at a position.
 fn group_root(size: &[u32], above: &[u32], at: Position) -> bool
     requires { ⌜ ((ps : List ℕ) × Families ps (now size) (now above)) × (at .0 < length (now size)) ⌝ }
-    ensures { λ r. ⌜ ((ps : List ℕ) → Families ps (now (size .entry)) (now (above .entry)) → r ≡ groupRoot groupLimit ps (getD (order ps) (at .0) 0)) ⌝ }
+    ensures { λ r. ⌜ ((ps : List ℕ) → Families ps (now (size .entry)) (now (above .entry)) → r ≡ groupRoot groupLimit ps (entryAt ps (at .0))) ⌝ }
 {
     if 5 < size[at.0 as usize] {
         return false;

@@ -1,10 +1,11 @@
 // LADPOS and LADDERS.
 ghost use mathlib.Core.Path.{_≡_};
 ghost use mathlib.Core.List.{List};
-ghost use Prim.Native.Nat.{ℕ, _<_, min};
-ghost use lib.ListN.{length, getD};
-ghost use Rattle.tree.specs.Forest.{order, pathTop};
-ghost use Rattle.fill.specs.Arrays.{Paths, Runs, Laid};
+ghost use Prim.Native.Nat.{ℕ, _≤_, _<_, min};
+ghost use lib.ListN.{length};
+ghost use Rattle.tree.specs.Parents.{depth};
+ghost use Rattle.tree.specs.Forest.{pathTop};
+ghost use Rattle.fill.specs.Arrays.{entryAt, Paths, Runs, Laid, Climbs, Risen};
 use base::Position;
 
 fn lesser(a: u32, b: u32) -> u32
@@ -19,7 +20,7 @@ fn lesser(a: u32, b: u32) -> u32
 // Whether a long path starts at a position.
 fn path_top(long: &[u32], above: &[u32], at: Position) -> bool
     requires { ⌜ ((ps : List ℕ) × Paths ps (now long) (now above)) × (at .0 < length (now above)) ⌝ }
-    ensures { λ r. ⌜ ((ps : List ℕ) → Paths ps (now (long .entry)) (now (above .entry)) → r ≡ pathTop ps (getD (order ps) (at .0) 0)) ⌝ }
+    ensures { λ r. ⌜ ((ps : List ℕ) → Paths ps (now (long .entry)) (now (above .entry)) → r ≡ pathTop ps (entryAt ps (at .0))) ⌝ }
 {
     if at.0 == 0 {
         return true;
@@ -65,4 +66,18 @@ pub fn ladder_places(
         }
     }
     Ladders { paths, words }
+}
+
+// The nearest ancestors of the entry at a position, so many, into the words before a place.
+fn rise(order: &[u32], above: &[u32], top: Position, place: u32, count: u32, cells: &mut [u32])
+    requires { ⌜ ((ps : List ℕ) × Climbs ps (now order) (now above) × (count ≤ depth ps (entryAt ps (top .0)))) × (top .0 < length (now order)) × (count ≤ place) × (place ≤ length (now cells)) ⌝ }
+    ensures { λ _. ⌜ ((ps : List ℕ) → Climbs ps (now (order .entry)) (now (above .entry)) → count ≤ depth ps (entryAt ps (top .0)) → Risen ps (entryAt ps (top .0)) place count (now (cells .entry)) (now (cells .exit))) ⌝ }
+{
+    let mut at = top;
+    let mut k: u32 = 0;
+    while k < count {
+        at = Position(above[at.0 as usize]);
+        k += 1;
+        cells[(place - k) as usize] = order[at.0 as usize];
+    }
 }

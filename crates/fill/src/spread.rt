@@ -1,7 +1,7 @@
 // The sections of n words: a word for each entry, from arrays with a word for each position.
 ghost use mathlib.Core.Path.{_≡_};
 ghost use Prim.Native.Nat.{_≤_};
-ghost use lib.ListN.{length};
+ghost use lib.ListN.{length, replicate};
 ghost use Rattle.base.specs.Limits.{mostEntries};
 ghost use Rattle.fill.specs.Arrays.{Indexes, Scattered, Placed};
 use base::Node;
@@ -40,6 +40,17 @@ pub fn copy(from: &[u32], to: &mut [u32])
     let mut i: usize = 0;
     while i < from.len() {
         to[i] = from[i];
+        i += 1;
+    }
+}
+
+// Zeros.
+pub fn zero(cells: &mut [u32])
+    ensures { λ _. ⌜ now (cells .exit) ≡ replicate (length (now (cells .entry))) 0 ⌝ }
+{
+    let mut i: usize = 0;
+    while i < cells.len() {
+        cells[i] = 0;
         i += 1;
     }
 }
