@@ -3,7 +3,7 @@ use mathlib.Core.Path.{_≡_, refl, sym, ap, _∙_}
 use mathlib.Core.List.{List, map, flatten}
 use mathlib.Core.Bool.{true, false}
 use mathlib.Core.Option.{some, Option·some-injective}
-use Prim.Native.Nat.{ℕ, zero, suc, _+_, _*_, _-_, _≤_, _<_}
+use Prim.Native.Nat.{ℕ, _+_, _*_, _-_, _≤_, _<_, min}
 use native.Mathlib.Omega.{arith}
 use native.Mathlib.Numerals.{add-one}
 use native.Mathlib.Decide.{ℕ-discrete, decLt, decLe}
@@ -11,7 +11,7 @@ use borrow.Author.Count.{below-more}
 use lib.ListN.{length, getD, set, length-set, List·getD-eq-default, getD-replicate, length-replicate, replicate}
 use lib.Seq.{getD-set-same, getD-set-other}
 use Rattle.base.specs.Limits.{mostEntries}
-use Rattle.base.specs.Lists.{padded}
+use Rattle.base.proofs.Lists.{clash}
 use Rattle.tree.specs.Parents.{topMark, parent, up, depth}
 use Rattle.tree.specs.Forest.{height, order, position, pathTop}
 use Rattle.tree.specs.Faults.{Tree}
@@ -19,7 +19,7 @@ use Rattle.tree.proofs.Climbing.{entry-in, entry-some, up-first, up-add, up-in}
 use Rattle.tree.proofs.Depths.{up-some}
 use Rattle.tree.proofs.Positions.{order-length, position-in, at-position, position-of, order-in}
 use Rattle.table.specs.Ladders.{ladders, ladPos}
-use Rattle.climbs.proofs.Ladders.{rise, ladpos-in, ladder-own, lemma-5}
+use Rattle.climbs.proofs.Ladders.{rise, ladpos-top, ladpos-in, ladder-own, lemma-5}
 use Rattle.climbs.proofs.Room.{ladders-fit}
 use Rattle.climbs.proofs.Filling.{filled}
 use Rattle.fill.specs.Arrays.{entryAt, abovePosition, Climbs, Risen, Runs, Rungs, Laddered}
@@ -84,3 +84,153 @@ risen-more ps v place k old new x h b e r =
       behind = λ j l. getD-set-other new at j x 0 (λ z. omega arith) ∙ r .behind j l;
       words = λ j u a l. below-more (λ j. (u : ℕ) → 1 ≤ j → up ps j v ≡ some u → getD (set new at x) (place - j) 0 ≡ u) (k + 1) before here j (omega arith) u a;
     }
+
+-- a word is that of the ladders
+abbrev pub Right : List ℕ → List ℕ → ℕ → Type 0
+Right ps cells j = getD cells j 0 ≡ getD (flatten (ladders ps)) j 0
+
+-- the words of the first i positions are right, and those behind all ladders
+pub record Filling (ps : List ℕ) (i : ℕ) (cells : List ℕ) : Type 0 where
+  pub size : length cells ≡ 2 * length ps
+  pub own : (k : ℕ) → k < i → Right ps cells (ladPos ps (entryAt ps k))
+  pub over : (k : ℕ) → k < i → pathTop ps (entryAt ps k) ≡ true → (m : ℕ) → 1 ≤ m → m ≤ rise ps (entryAt ps k) → Right ps cells (ladPos ps (entryAt ps k) - m)
+  pub past : (j : ℕ) → length (flatten (ladders ps)) ≤ j → Right ps cells j
+
+-- a right word keeps every other
+right-set : (ps cells : List ℕ) (at x j : ℕ) → at < length cells → x ≡ getD (flatten (ladders ps)) at 0 → Right ps cells j → Right ps (set cells at x) j
+right-set ps cells at x j h e r = go (ℕ-discrete j at)
+  where
+    go : Dec (j ≡ at) → Right ps (set cells at x) j
+    go (yes q) = rw q (getD-set-same cells at x 0 h ∙ e)
+    go (no q) = getD-set-other cells at j x 0 q ∙ r
+
+module _ (ps : List ℕ) (small : length ps ≤ topMark) (tree : Tree ps) where
+  pub fill-none : (n : ℕ) (cells : List ℕ) → n ≡ 2 * length ps → cells ≡ replicate n 0 → Filling ps 0 cells
+  fill-none n cells b e = record {
+    size = ap length e ∙ length-replicate {A = ℕ} n 0 ∙ b;
+    own = λ k h. absurd (omega arith);
+    over = λ k h. absurd (omega arith);
+    past = λ j h. ap (λ l. getD l j 0) e ∙ go j (decLt j n) ∙ sym (List·getD-eq-default (flatten (ladders ps)) 0 h);
+  }
+    where
+      go : (j : ℕ) → Dec (j < n) → getD (replicate {A = ℕ} n 0) j 0 ≡ 0
+      go j (yes l) = getD-replicate n j 0 0 l
+      go j (no l) = List·getD-eq-default (replicate {A = ℕ} n 0) 0 (omega (arith, length-replicate {A = ℕ} n 0))
+
+  pub fill-end : (cells : List ℕ) → Filling ps (length ps) cells → Laddered ps cells
+  unfolding Laddered
+  fill-end cells s = filled ps small tree cells (s .size) own over (λ j h b. s .past j h ∙ List·getD-eq-default (flatten (ladders ps)) 0 h)
+    where
+      own : (v : ℕ) → v < length ps → getD cells (ladPos ps v) 0 ≡ v
+      own v h = (rw (at-position ps small tree v h) at (s .own (position ps v) (position-in ps small tree v h))) ∙ ladder-own ps small tree v h
+
+      over : (t k u : ℕ) → t < length ps → pathTop ps t ≡ true → 1 ≤ k → k ≤ rise ps t → up ps k t ≡ some u → getD cells (ladPos ps t - k) 0 ≡ u
+      over t k u h b a l e =
+          let q = at-position ps small tree t h in
+          let w = s .over (position ps t) (position-in ps small tree t h) (ap (pathTop ps) q ∙ b) k a (rw q l) in
+          (rw q at w) ∙ lemma-5 ps small tree t k u (omega arith) e .1
+
+  module _ (i : ℕ) (h : i < length ps) where
+    abbrev v : ℕ
+    v = entryAt ps i
+
+    hv : v < length ps
+    hv = order-in ps small tree i h
+
+    pub place-room : (cells : List ℕ) → Filling ps i cells → ladPos ps v < length cells
+    place-room cells s = omega (arith, s .size, ladpos-in ps small tree v hv, ladders-fit ps small tree)
+
+    -- one position further
+    fill-more : (cells new : List ℕ) → Filling ps i cells → length new ≡ length cells → ((j : ℕ) → Right ps cells j → Right ps new j) → Right ps new (ladPos ps v)
+        → (pathTop ps v ≡ true → (m : ℕ) → 1 ≤ m → m ≤ rise ps v → Right ps new (ladPos ps v - m)) → Filling ps (i + 1) new
+    fill-more cells new s n keeps own over = record {
+      size = n ∙ s .size;
+      own = below-more (λ k. Right ps new (ladPos ps (entryAt ps k))) i (λ k l. keeps _ (s .own k l)) own;
+      over = below-more (λ k. pathTop ps (entryAt ps k) ≡ true → (m : ℕ) → 1 ≤ m → m ≤ rise ps (entryAt ps k) → Right ps new (ladPos ps (entryAt ps k) - m)) i (λ k l t m a b. keeps _ (s .over k l t m a b)) over;
+      past = λ j l. keeps j (s .past j l);
+    }
+
+    own-right : (cells : List ℕ) → Filling ps i cells → (j : ℕ) → Right ps cells j → Right ps (set cells (ladPos ps v) v) j
+    own-right cells s j r = right-set ps cells (ladPos ps v) v j (place-room cells s) (sym (ladder-own ps small tree v hv)) r
+
+    own-here : (cells : List ℕ) → Filling ps i cells → Right ps (set cells (ladPos ps v) v) (ladPos ps v)
+    own-here cells s = getD-set-same cells (ladPos ps v) v 0 (place-room cells s) ∙ sym (ladder-own ps small tree v hv)
+
+    pub fill-inner : (cells : List ℕ) → Filling ps i cells → pathTop ps v ≡ false → Filling ps (i + 1) (set cells (ladPos ps v) v)
+    fill-inner cells s t = fill-more cells _ s (length-set cells (ladPos ps v) v) (own-right cells s) (own-here cells s) (λ e. clash (sym t ∙ e))
+
+    -- the ancestors before a path top's word
+    module _ (old new : List ℕ) (r : Risen ps v (ladPos ps v) (rise ps v) old new) where
+      risen-here : (m : ℕ) → 1 ≤ m → m ≤ rise ps v → Right ps new (ladPos ps v - m)
+      risen-here m a b =
+          let (u, e) = up-some ps small tree m v hv (omega arith) in
+          r .words m u a b e ∙ sym (lemma-5 ps small tree v m u (omega arith) e .1)
+
+      risen-keeps : (j : ℕ) → Right ps old j → Right ps new j
+      risen-keeps j q = go (decLt (j + rise ps v) (ladPos ps v)) (decLe (ladPos ps v) j)
+        where
+          go : Dec (j + rise ps v < ladPos ps v) → Dec (ladPos ps v ≤ j) → Right ps new j
+          go (yes a) b = r .before j a ∙ q
+          go (no a) (yes b) = r .behind j b ∙ q
+          go (no a) (no b) =
+              let z : ladPos ps v - (ladPos ps v - j) ≡ j = omega arith in
+              rw z at (risen-here (ladPos ps v - j) (omega arith) (omega arith))
+
+    pub fill-top : (cells new : List ℕ) → Filling ps i cells → Risen ps v (ladPos ps v) (rise ps v) (set cells (ladPos ps v) v) new → Filling ps (i + 1) new
+    fill-top cells new s r = fill-more cells new s (r .same ∙ length-set cells (ladPos ps v) v) (λ j q. risen-keeps (set cells (ladPos ps v) v) new r j (own-right cells s j q))
+        (risen-keeps (set cells (ladPos ps v) v) new r (ladPos ps v) (own-here cells s)) (λ e. risen-here (set cells (ladPos ps v) v) new r)
+
+-- the same from the arrays
+module _ (ps ord places deep high long above : List ℕ) (r : Rungs ps ord places deep high long above) where
+  few : length ps ≤ mostEntries
+  few = r .runs .paths .few
+
+  tree-of : Tree ps
+  tree-of = r .runs .paths .tree
+
+  pub climbs-of : Climbs ps ord above
+  climbs-of = record { few = few; tree = tree-of; order-is = r .order-is; aboves = r .runs .paths .aboves }
+
+  pub rungs-length : length ord ≡ length ps
+  rungs-length = ord-length ps ord above climbs-of
+
+  pub places-length : length places ≡ length ord
+  places-length = array-length ps few tree-of (ladPos ps) places (r .places-are) ∙ sym rungs-length
+
+  pub depths-length : length deep ≡ length ord
+  depths-length = array-length ps few tree-of (depth ps) deep (r .runs .depths) ∙ sym rungs-length
+
+  pub heights-length : length high ≡ length ord
+  heights-length = array-length ps few tree-of (height ps) high (r .runs .heights) ∙ sym rungs-length
+
+  pub uppers-length : length above ≡ length ord
+  uppers-length = overs-length ps ord above climbs-of ∙ sym rungs-length
+
+  module _ (i : ℕ) (h : i < length ord) where
+    pub place-word : getD places i 0 ≡ ladPos ps (entryAt ps i)
+    place-word = array-word ps few tree-of (ladPos ps) places (r .places-are) i (omega (arith, rungs-length))
+
+    pub rise-word : min (getD high i 0) (getD deep i 0) ≡ rise ps (entryAt ps i)
+    rise-word = rw (array-word ps few tree-of (height ps) high (r .runs .heights) i (omega (arith, rungs-length)), array-word ps few tree-of (depth ps) deep (r .runs .depths) i (omega (arith, rungs-length)))
+
+    -- a path top's ancestors stand behind the section's start
+    pub rise-room : pathTop ps (entryAt ps i) ≡ true → min (getD high i 0) (getD deep i 0) ≤ getD places i 0
+    rise-room t =
+        let n : length ps ≤ topMark = omega (arith, few) in
+        omega (arith, rise-word, place-word, ladpos-top ps n tree-of (entryAt ps i) (order-in ps n tree-of i (omega (arith, rungs-length))) t)
+
+    pub write-room : (cells : List ℕ) → Filling ps i cells → getD places i 0 < length cells
+    write-room cells s = omega (arith, place-word, place-room ps (omega (arith, few)) tree-of i (omega (arith, rungs-length)) cells s)
+
+    own-cells : (cells : List ℕ) → set cells (getD places i 0) (getD ord i 0) ≡ set cells (ladPos ps (entryAt ps i)) (entryAt ps i)
+    own-cells cells = ap (λ j. set cells j (getD ord i 0)) place-word ∙ ap (set cells (ladPos ps (entryAt ps i))) (ap (λ l. getD l i 0) (r .order-is))
+
+    pub fill-next : (cells : List ℕ) → Filling ps i cells → pathTop ps (entryAt ps i) ≡ false → Filling ps (i + 1) (set cells (getD places i 0) (getD ord i 0))
+    fill-next cells s t = rw (own-cells cells) (fill-inner ps (omega (arith, few)) tree-of i (omega (arith, rungs-length)) cells s t)
+
+    pub fill-over : (cells new : List ℕ) (count : ℕ) → count ≡ min (getD high i 0) (getD deep i 0) → Filling ps i cells
+        → Risen ps (entryAt ps i) (getD places i 0) count (set cells (getD places i 0) (getD ord i 0)) new → Filling ps (i + 1) new
+    fill-over cells new count e s q =
+        let w : Risen ps (entryAt ps i) (ladPos ps (entryAt ps i)) (rise ps (entryAt ps i)) (set cells (ladPos ps (entryAt ps i)) (entryAt ps i)) new
+            = rw (own-cells cells, place-word, e ∙ rise-word) at q in
+        fill-top ps (omega (arith, few)) tree-of i (omega (arith, rungs-length)) cells new s w

@@ -1,11 +1,12 @@
 // LADPOS and LADDERS.
 ghost use mathlib.Core.Path.{_≡_};
 ghost use mathlib.Core.List.{List};
-ghost use Prim.Native.Nat.{ℕ, _≤_, _<_, min};
+ghost use Prim.Native.Nat.{ℕ, _*_, _≤_, _<_, min};
 ghost use lib.ListN.{length};
 ghost use Rattle.tree.specs.Parents.{depth};
 ghost use Rattle.tree.specs.Forest.{pathTop};
-ghost use Rattle.fill.specs.Arrays.{entryAt, Paths, Runs, Laid, Climbs, Risen};
+ghost use Rattle.fill.specs.Arrays.{entryAt, Paths, Runs, Laid, Climbs, Risen, Rungs, Laddered};
+use crate::spread::zero;
 use base::Position;
 
 fn lesser(a: u32, b: u32) -> u32
@@ -33,7 +34,7 @@ fn path_top(long: &[u32], above: &[u32], at: Position) -> bool
 }
 
 // The long paths, and the words of their ladders.
-pub struct Ladders {
+pub struct Totals {
     pub paths: u32,
     pub words: u32,
 }
@@ -45,7 +46,7 @@ pub fn ladder_places(
     long: &[u32],
     above: &[u32],
     places: &mut [u32],
-) -> Ladders
+) -> Totals
     requires { ⌜ ((ps : List ℕ) × Runs ps (now depth) (now height) (now long) (now above)) × (length (now places) ≡ length (now depth)) ⌝ }
     ensures { λ r. ⌜ ((ps : List ℕ) → Runs ps (now (depth .entry)) (now (height .entry)) (now (long .entry)) (now (above .entry)) → Laid ps (r .paths) (r .words) (now (places .exit))) ⌝ }
 {
@@ -65,7 +66,7 @@ pub fn ladder_places(
             places[at] = places[over.0 as usize] + 1;
         }
     }
-    Ladders { paths, words }
+    Totals { paths, words }
 }
 
 // The nearest ancestors of the entry at a position, so many, into the words before a place.
@@ -79,5 +80,33 @@ fn rise(order: &[u32], above: &[u32], top: Position, place: u32, count: u32, cel
         at = Position(above[at.0 as usize]);
         k += 1;
         cells[(place - k) as usize] = order[at.0 as usize];
+    }
+}
+
+// LADDERS: each entry at its place, the nearest ancestors of each path's top before it, and zeros behind.
+pub fn ladders(
+    order: &[u32],
+    places: &[u32],
+    depth: &[u32],
+    height: &[u32],
+    long: &[u32],
+    above: &[u32],
+    cells: &mut [u32],
+)
+    requires { ⌜ ((ps : List ℕ) × Rungs ps (now order) (now places) (now depth) (now height) (now long) (now above)) × (length (now cells) ≡ 2 * length (now order)) ⌝ }
+    ensures { λ _. ⌜ ((ps : List ℕ) → Rungs ps (now (order .entry)) (now (places .entry)) (now (depth .entry)) (now (height .entry)) (now (long .entry)) (now (above .entry)) → Laddered ps (now (cells .exit))) ⌝ }
+{
+    zero(cells);
+    let mut i: usize = 0;
+    while i < order.len() {
+        let at = i;
+        i += 1;
+        let place = places[at];
+        cells[place as usize] = order[at];
+        let here = Position(at as u32);
+        if path_top(long, above, here) {
+            let count = lesser(height[at], depth[at]);
+            rise(order, above, here, place, count, cells);
+        }
     }
 }
