@@ -75,9 +75,9 @@ risen-more ps v place k old new x h b e r =
     let at = place - (k + 1) in
     let n : at < length new = omega (arith, r .same) in
     let before : (j : ℕ) → j < k + 1 → (u : ℕ) → 1 ≤ j → up ps j v ≡ some u → getD (set new at x) (place - j) 0 ≡ u
-        = λ j l u a q. getD-set-other new at (place - j) x 0 (λ z. omega arith) ∙ r .words j u a (omega arith) q in
+    = λ j l u a q. getD-set-other new at (place - j) x 0 (λ z. omega arith) ∙ r .words j u a (omega arith) q in
     let here : (u : ℕ) → 1 ≤ k + 1 → up ps (k + 1) v ≡ some u → getD (set new at x) (place - (k + 1)) 0 ≡ u
-        = λ u a q. getD-set-same new at x 0 n ∙ Option·some-injective x u (sym e ∙ q) in
+    = λ u a q. getD-set-same new at x 0 n ∙ Option·some-injective x u (sym e ∙ q) in
     record {
       same = length-set new at x ∙ r .same;
       before = λ j l. getD-set-other new at j x 0 (λ z. omega arith) ∙ r .before j (omega arith);
@@ -232,5 +232,5 @@ module _ (ps ord places deep high long above : List ℕ) (r : Rungs ps ord place
         → Risen ps (entryAt ps i) (getD places i 0) count (set cells (getD places i 0) (getD ord i 0)) new → Filling ps (i + 1) new
     fill-over cells new count e s q =
         let w : Risen ps (entryAt ps i) (ladPos ps (entryAt ps i)) (rise ps (entryAt ps i)) (set cells (ladPos ps (entryAt ps i)) (entryAt ps i)) new
-            = rw (own-cells cells, place-word, e ∙ rise-word) at q in
+        = rw (own-cells cells, place-word, e ∙ rise-word) at q in
         fill-top ps (omega (arith, few)) tree-of i (omega (arith, rungs-length)) cells new s w

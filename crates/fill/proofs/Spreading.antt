@@ -37,7 +37,7 @@ module _ (at : List ℕ) (g : ℕ → ℕ) (old : List ℕ) (ok : Indexes at old
   holds-more : (x : ℕ) → x ≡ g i → Once at → Holds at g (i + 1) (set cells (getD at i 0) x)
   holds-more x e once =
       let before : (k : ℕ) → k < i → getD (set cells (getD at i 0) x) (getD at k 0) 0 ≡ g k
-          = λ k l. getD-set-other cells (getD at i 0) (getD at k 0) x 0 (λ q. let z : k ≡ i = once k i (omega arith) h q in omega arith) ∙ w .2 once k l in
+      = λ k l. getD-set-other cells (getD at i 0) (getD at k 0) x 0 (λ q. let z : k ≡ i = once k i (omega arith) h q in omega arith) ∙ w .2 once k l in
       below-more _ i before (getD-set-same cells (getD at i 0) x 0 written-room ∙ e)
 
   pub written-more : (x : ℕ) → x ≡ g i → Written at g old (i + 1) (set cells (getD at i 0) x)
@@ -62,11 +62,11 @@ module _ (ps : List ℕ) (few : length ps ≤ mostEntries) (tree : Tree ps) wher
         let once : Once at = rw is order-distinct in
         let held : Holds (order ps) g i cells = rw is at (w .2 once) in
         ext-getD 0 cells (below (length ps) f) (omega (arith, each-length (length ps) 0 f, w .1)) (λ v h.
-            let b : v < length ps = omega (arith, w .1) in
-            sym (ap (λ u. getD cells u 0) (at-position ps (omega arith) tree v b))
-            ∙ held (position ps v) (omega (arith, position-in ps (omega arith) tree v b))
-            ∙ same v b
-            ∙ sym (below-at (length ps) f 0 v b))
+        let b : v < length ps = omega (arith, w .1) in
+        sym (ap (λ u. getD cells u 0) (at-position ps (omega arith) tree v b))
+        ∙ held (position ps v) (omega (arith, position-in ps (omega arith) tree v b))
+        ∙ same v b
+        ∙ sym (below-at (length ps) f 0 v b))
 
 -- the first i words of an array are those of g
 abbrev pub Ran : (ℕ → ℕ) → List ℕ → ℕ → List ℕ → Type 0
@@ -89,4 +89,4 @@ pub ran-map : (ps : List ℕ) → length ps ≤ mostEntries → Tree ps → (f :
 ran-map ps few tree f old i cells n h r =
     let m : length (map f (order ps)) ≡ length ps = length-map (order ps) f ∙ order-length ps (omega arith) tree in
     ext-getD 0 cells (map f (order ps)) (omega (arith, r .0)) (λ k b.
-        r .1 k (omega (arith, r .0)) ∙ sym (array-at ps few tree f k (omega (arith, r .0))))
+    r .1 k (omega (arith, r .0)) ∙ sym (array-at ps few tree f k (omega (arith, r .0))))

@@ -64,5 +64,8 @@ pub fn kinds(size: &[u32], above: &[u32], cells: &mut [u32]) -> Counts
     if size[0] <= 5 {
         return Counts { groups, jumps };
     }
-    Counts { groups, jumps: jumps + 1 }
+    Counts {
+        groups,
+        jumps: jumps + 1,
+    }
 }

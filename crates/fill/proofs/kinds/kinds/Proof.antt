@@ -49,8 +49,7 @@ loop-again : tie.Need-loop-again Inv-loop μ-loop
 loop-again c =
     let turn = c .before in
     let l = turn .before .before .loop in
-    let s = turn .before .before .before .before .before .before in
-    (
+    let s = turn .before .before .before .before .before .before in (
       omega arith,
       record { few = l .inv .1 .few; cells = length-set (l .cells) (l .i) _ ∙ l .inv .1 .cells; counted = omega arith; jumped = omega arith; rooted = omega arith; lasted = omega arith },
       λ ps f. kind-root ps (omega (arith, f .few)) (f .tree) groupLimit (s .args .cells .now) (s .pre .1 ∙ sizes-length ps (s .args .size .now) (s .args .above .now) f) (l .i) (l .groups) (l .jumps) (l .root .0) (l .last .0) (l .cells) (omega (arith, sizes-length ps (s .args .size .now) (s .args .above .now) f)) (l .inv .2 ps f) (sym (turn .group-root .ensures ps f) ∙ c .if1 .taken) _ refl,
@@ -68,8 +67,7 @@ loop-again-2 : tie.Need-loop-again-2 Inv-loop μ-loop
 loop-again-2 c =
     let turn = c .before .before .before .before .before in
     let l = turn .before .before .loop in
-    let s = turn .before .before .before .before .before .before in
-    (
+    let s = turn .before .before .before .before .before .before in (
       omega arith,
       record { few = l .inv .1 .few; cells = length-set (l .cells) (l .i) _ ∙ l .inv .1 .cells; counted = omega arith; jumped = omega arith; rooted = omega arith; lasted = omega arith },
       λ ps f. kind-inner ps (omega (arith, f .few)) (f .tree) groupLimit (s .args .cells .now) (s .pre .1 ∙ sizes-length ps (s .args .size .now) (s .args .above .now) f) (l .i) (l .groups) (l .jumps) (l .root .0) (l .last .0) (l .cells) (omega (arith, sizes-length ps (s .args .size .now) (s .args .above .now) f)) (l .inv .2 ps f) (sym (turn .group-root .ensures ps f) ∙ c .before .before .before .before .if1 .left) (word-micro ps (s .args .size .now) (s .args .above .now) f (l .i) (omega arith) (c .before .before .if2 .taken)) _ refl,
@@ -87,8 +85,7 @@ loop-again-3 : tie.Need-loop-again-3 Inv-loop μ-loop
 loop-again-3 c =
     let turn = c .before .before .before .before .before .before .before .before in
     let l = turn .before .before .loop in
-    let s = turn .before .before .before .before .before .before in
-    (
+    let s = turn .before .before .before .before .before .before in (
       omega arith,
       record { few = l .inv .1 .few; cells = length-set (l .cells) (l .i) _ ∙ l .inv .1 .cells; counted = omega arith; jumped = omega arith; rooted = omega arith; lasted = omega arith },
       λ ps f. kind-past ps (omega (arith, f .few)) (f .tree) groupLimit (s .args .cells .now) (s .pre .1 ∙ sizes-length ps (s .args .size .now) (s .args .above .now) f) (l .i) (l .groups) (l .jumps) (l .root .0) (l .last .0) (l .cells) (omega (arith, sizes-length ps (s .args .size .now) (s .args .above .now) f)) (l .inv .2 ps f) (word-macro ps (s .args .size .now) (s .args .above .now) f (l .i) (omega arith) (c .before .before .before .before .before .if2 .left)) (omega (arith, size-word ps (s .args .size .now) (s .args .above .now) f (l .last .0) (omega arith), c .if3 .taken)) _ refl,
@@ -98,8 +95,7 @@ loop-again-4 : tie.Need-loop-again-4 Inv-loop μ-loop
 loop-again-4 c =
     let turn = c .before .before .before .before .before .before .before .before in
     let l = turn .before .before .loop in
-    let s = turn .before .before .before .before .before .before in
-    (
+    let s = turn .before .before .before .before .before .before in (
       omega arith,
       record { few = l .inv .1 .few; cells = length-set (l .cells) (l .i) _ ∙ l .inv .1 .cells; counted = omega arith; jumped = omega arith; rooted = omega arith; lasted = omega arith },
       λ ps f. kind-within ps (omega (arith, f .few)) (f .tree) groupLimit (s .args .cells .now) (s .pre .1 ∙ sizes-length ps (s .args .size .now) (s .args .above .now) f) (l .i) (l .groups) (l .jumps) (l .root .0) (l .last .0) (l .cells) (omega (arith, sizes-length ps (s .args .size .now) (s .args .above .now) f)) (l .inv .2 ps f) (word-macro ps (s .args .size .now) (s .args .above .now) f (l .i) (omega arith) (c .before .before .before .before .before .if2 .left)) (omega (arith, size-word ps (s .args .size .now) (s .args .above .now) f (l .last .0) (omega arith), c .if3 .left)) _ refl,

@@ -70,8 +70,7 @@ loop-again : tie.Need-loop-again Inv-loop μ-loop
 loop-again c =
     let arm = c .before .before .before .before in
     let l = arm .before .before .before .loop in
-    let s = arm .before .before .before .before .before .before .before .before .before in
-    (
+    let s = arm .before .before .before .before .before .before .before .before .before in (
       omega arith,
       record { few = l .inv .1 .few; highs = l .inv .1 .highs; aboves = l .inv .1 .aboves; cells = length-set (l .places) (l .i) _ ∙ l .inv .1 .cells },
       λ ps r. lay-top ps _ _ _ _ r (s .args .places .now) (s .pre .1) (l .i) (l .paths) (l .words) (l .places) (omega arith) (l .inv .2 ps r) (sym (arm .before .path-top .ensures ps (r .paths)) ∙ arm .if1 .taken) _ (ap (λ m. l .words + m) (c .before .lesser .ensures)),
@@ -97,8 +96,7 @@ loop-again-2 : tie.Need-loop-again-2 Inv-loop μ-loop
 loop-again-2 c =
     let arm = c .before .before .before in
     let l = arm .before .before .before .loop in
-    let s = arm .before .before .before .before .before .before .before .before .before in
-    (
+    let s = arm .before .before .before .before .before .before .before .before .before in (
       omega arith,
       record { few = l .inv .1 .few; highs = l .inv .1 .highs; aboves = l .inv .1 .aboves; cells = length-set (l .places) (l .i) _ ∙ l .inv .1 .cells },
       λ ps r. lay-next ps _ _ _ _ r (s .args .places .now) (s .pre .1) (l .i) (l .paths) (l .words) (l .places) (omega arith) (l .inv .2 ps r) (sym (arm .before .path-top .ensures ps (r .paths)) ∙ arm .if1 .left),

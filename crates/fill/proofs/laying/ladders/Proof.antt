@@ -98,8 +98,7 @@ loop-again c =
 loop-again-2 : tie.Need-loop-again-2 Inv-loop μ-loop
 loop-again-2 c =
     let l = c .before .before .before .before .before .loop in
-    let s = c .before .before .before .before .before .before .before .before .before .before .before .before .before .before .before .before .before in
-    (
+    let s = c .before .before .before .before .before .before .before .before .before .before .before .before .before .before .before .before .before in (
       omega arith,
       record { few = l .inv .1 .few; placed = l .inv .1 .placed; deeps = l .inv .1 .deeps; highs = l .inv .1 .highs; aboves = l .inv .1 .aboves; room = length-set (l .cells) (getD (s .args .places .now) (l .i) 0) (getD (s .args .order .now) (l .i) 0) ∙ l .inv .1 .room },
       λ ps r. fill-next ps (s .args .order .now) (s .args .places .now) (s .args .depth .now) (s .args .height .now) (s .args .long .now) (s .args .above .now) r (l .i) (omega arith) (l .cells) (l .inv .2 ps r) (sym (c .before .path-top .ensures ps (r .runs .paths)) ∙ c .if1 .left),
