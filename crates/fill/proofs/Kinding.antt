@@ -1,7 +1,7 @@
 -- KIND by position: the roots of groups, the jump entries, and the words one position further. Assumes nothing.
 use mathlib.Core.Path.{_≡_, refl, sym, ap, _∙_}
-use mathlib.Core.List.{List, [], _∷_, _++_, map}
-use mathlib.Core.Bool.{Bool, true, false, not, cond, _&&_}
+use mathlib.Core.List.{List, [], _∷_, map}
+use mathlib.Core.Bool.{Bool, true, false, not, cond}
 use mathlib.Core.Logic.{_⊎_, inl, inr}
 use mathlib.Core.Option.{Option, none, some, Option·elim, Option·some-injective}
 use Prim.Native.Nat.{ℕ, zero, suc, _+_, _*_, _-_, _≤_, _<_}
@@ -23,14 +23,14 @@ use Rattle.tree.specs.Faults.{Tree}
 use Rattle.tree.proofs.Climbing.{parent-in, parent-some}
 use Rattle.tree.proofs.Forests.{child-of, of-child}
 use Rattle.tree.proofs.OneTree.{root-in}
-use Rattle.tree.proofs.Positions.{order-length, position-in, at-position, position-of, order-in}
+use Rattle.tree.proofs.Positions.{order-length, at-position, position-of, order-in}
 use Rattle.tree.proofs.Intervals.{ancestor-self, ancestor-trans, ancestor-parent, ancestor-first, interval, inside, family-room, parent-before, root-first, next-parent}
-use Rattle.table.specs.Groups.{micro, groupRoot, groupRoots, jumpNode, jumpNodes, microKind, macroKind, kind}
-use Rattle.climbs.proofs.Jumps.{micro-size, size-micro, macro-size, size-macro, jump-parts, jump-is, jump-not, macro-up, micro-down, macro-kind}
-use Rattle.climbs.proofs.Groups.{rootsWithin, Grouped, grouped, one-root, root-micro, root-parent, no-root}
-use Rattle.fill.specs.Arrays.{abovePosition, Families, Kinded}
+use Rattle.table.specs.Groups.{micro, groupRoot, groupRoots, jumpNode, jumpNodes, kind}
+use Rattle.climbs.proofs.Jumps.{size-micro, size-macro, jump-parts, jump-is, jump-not, macro-up, micro-down, macro-kind}
+use Rattle.climbs.proofs.Groups.{rootsWithin, Grouped, grouped, one-root, root-micro, no-root}
+use Rattle.fill.specs.Arrays.{abovePosition, Families}
 use Rattle.fill.proofs.Spreading.{Ran, ran-none, ran-more, ran-map}
-use Rattle.fill.proofs.Laddering.{Over, array-length, array-word, over-of, over-at}
+use Rattle.fill.proofs.Laddering.{Over, array-length, array-word, over-at}
 
 -- how many of a list's first entries pass a test, one entry further
 keep-one : (test : ℕ → Bool) (x : ℕ) → length (keep test (x ∷ [])) ≡ one (test x)

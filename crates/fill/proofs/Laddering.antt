@@ -1,9 +1,9 @@
 -- LADPOS by position: whether a long path starts at a position, and the words one position further. Assumes nothing.
 use mathlib.Core.Path.{_≡_, refl, sym, ap, _∙_}
-use mathlib.Core.List.{List, [], _∷_, map, flatten}
+use mathlib.Core.List.{List, [], _∷_, map}
 use mathlib.Core.Bool.{Bool, true, false}
 use mathlib.Core.Option.{Option, none, some, Option·elim, Option·some-injective}
-use Prim.Native.Nat.{ℕ, zero, suc, _+_, _*_, _≤_, _<_, min}
+use Prim.Native.Nat.{ℕ, zero, suc, _+_, _≤_, _<_, min}
 use native.Mathlib.Omega.{arith}
 use native.Mathlib.Numerals.{add-one}
 use lib.ListN.{length, getD, set, take, length-append, length-map, length-take}
@@ -13,13 +13,13 @@ use Rattle.tree.specs.Parents.{parent, depth}
 use Rattle.tree.specs.Forest.{height, order, position, longChild, pathTop}
 use Rattle.tree.specs.Faults.{Tree}
 use Rattle.tree.proofs.Climbing.{parent-some}
-use Rattle.tree.proofs.Positions.{order-length, position-in, at-position, position-of, order-in}
+use Rattle.tree.proofs.Positions.{order-length, at-position, position-of, order-in}
 use Rattle.tree.proofs.Intervals.{parent-before, next-parent}
-use Rattle.table.specs.Ladders.{pathTops, ladders, ladPos}
+use Rattle.table.specs.Ladders.{ladPos}
 use Rattle.climbs.proofs.Paths.{path-top-no, long-child, long-no-top}
 use Rattle.climbs.proofs.OwnPaths.{topsWithin}
 use Rattle.climbs.proofs.Ladders.{rise, rungsWithin, ladpos-next, ladpos-in}
-use Rattle.climbs.proofs.Room.{ladders-fit, paths-few}
+use Rattle.climbs.proofs.Room.{ladders-fit}
 use Rattle.climbs.proofs.Running.{tops-more, tops-same, tops-none, tops-all, rungs-more, rungs-same, rungs-none, rungs-all, rungs-fit, ladpos-met}
 use Rattle.fill.specs.Arrays.{abovePosition, longPosition, Paths, Runs, Laid}
 use Rattle.fill.proofs.Spreading.{array-at, Ran, ran-none, ran-more, ran-map}

@@ -1,28 +1,27 @@
 -- LADDERS: the ancestors before a path top's own word, one climb further, and every word that is right stays right. Assumes nothing.
 use mathlib.Core.Path.{_≡_, refl, sym, ap, _∙_}
-use mathlib.Core.List.{List, map, flatten}
+use mathlib.Core.List.{List, flatten}
 use mathlib.Core.Bool.{true, false}
 use mathlib.Core.Option.{some, Option·some-injective}
 use Prim.Native.Nat.{ℕ, _+_, _*_, _-_, _≤_, _<_, min}
 use native.Mathlib.Omega.{arith}
-use native.Mathlib.Numerals.{add-one}
 use native.Mathlib.Decide.{ℕ-discrete, decLt, decLe}
 use borrow.Author.Count.{below-more}
 use lib.ListN.{length, getD, set, length-set, List·getD-eq-default, getD-replicate, length-replicate, replicate}
 use lib.Seq.{getD-set-same, getD-set-other}
 use Rattle.base.specs.Limits.{mostEntries}
 use Rattle.base.proofs.Lists.{clash}
-use Rattle.tree.specs.Parents.{topMark, parent, up, depth}
-use Rattle.tree.specs.Forest.{height, order, position, pathTop}
+use Rattle.tree.specs.Parents.{topMark, up, depth}
+use Rattle.tree.specs.Forest.{height, position, pathTop}
 use Rattle.tree.specs.Faults.{Tree}
-use Rattle.tree.proofs.Climbing.{entry-in, entry-some, up-first, up-add, up-in}
+use Rattle.tree.proofs.Climbing.{entry-in, entry-some, up-first, up-add}
 use Rattle.tree.proofs.Depths.{up-some}
-use Rattle.tree.proofs.Positions.{order-length, position-in, at-position, position-of, order-in}
+use Rattle.tree.proofs.Positions.{order-length, position-in, at-position, order-in}
 use Rattle.table.specs.Ladders.{ladders, ladPos}
 use Rattle.climbs.proofs.Ladders.{rise, ladpos-top, ladpos-in, ladder-own, lemma-5}
 use Rattle.climbs.proofs.Room.{ladders-fit}
 use Rattle.climbs.proofs.Filling.{filled}
-use Rattle.fill.specs.Arrays.{entryAt, abovePosition, Climbs, Risen, Runs, Rungs, Laddered}
+use Rattle.fill.specs.Arrays.{entryAt, abovePosition, Climbs, Risen, Rungs, Laddered}
 use Rattle.fill.proofs.Laddering.{array-length, array-word, above-parent}
 
 -- so many climbs up, at a position

@@ -5,7 +5,7 @@ use mathlib.Core.List.{List}
 use Prim.Native.Nat.{ℕ, _+_, _-_, _≤_}
 use native.Mathlib.Omega.{arith}
 use borrow.Author.Needs.{needs}
-use lib.ListN.{length, getD, length-set}
+use lib.ListN.{length, length-set}
 use Rattle.fill.specs.Arrays.{Runs}
 use Rattle.fill.proofs.Laddering.{Laying, above-length, deep-length, high-length, lay-none, lay-end, paths-small, words-small, lay-top, word-less, place-small, lay-next}
 use Rattle.fill.proofs.laying.ladder_places.Statement.{statement}

@@ -1,10 +1,8 @@
 -- `laying::path_top` meets its contract: every position but the first has an entry above, which stands earlier. Assumes nothing.
-use mathlib.Core.Path.{_≡_, sym, ap, _∙_}
-use mathlib.Core.Bool.{true}
-use Prim.Native.Nat.{_<_}
+use mathlib.Core.Path.{sym, ap, _∙_}
 use native.Mathlib.Omega.{arith}
 use borrow.Author.Needs.{needs}
-use lib.ListN.{length, getD}
+use lib.ListN.{getD}
 use Rattle.tree.specs.Forest.{order, pathTop}
 use Rattle.fill.proofs.Laddering.{above-length, long-length, top-start, above-less, top-no, top-is}
 use Rattle.fill.proofs.laying.path_top.Statement.{statement}

@@ -8,7 +8,7 @@ use borrow.Author.Needs.{needs}
 use lib.ListN.{length, length-set}
 use Rattle.tree.specs.Parents.{depth}
 use Rattle.fill.specs.Arrays.{entryAt, Climbs, Risen}
-use Rattle.fill.proofs.Rising.{Climbed, ord-length, overs-length, ord-word, climbed-none, climbed-more, climbed-on, risen-none, risen-more}
+use Rattle.fill.proofs.Rising.{Climbed, ord-length, overs-length, ord-word, climbed-none, climbed-on, risen-none, risen-more}
 use Rattle.fill.proofs.laying.rise.Statement.{statement}
 use Rattle.fill.proofs.laying.rise.Tie as tie
 
