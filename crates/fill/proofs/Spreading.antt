@@ -11,7 +11,7 @@ use Rattle.base.specs.Lists.{below}
 use Rattle.base.proofs.Lists.{below-at, each-length, at-any}
 use Rattle.tree.specs.Forest.{order, position}
 use Rattle.tree.specs.Faults.{Tree}
-use Rattle.tree.proofs.Positions.{order-length, position-in, at-position, position-of}
+use Rattle.tree.proofs.Positions.{order-length, position-in, at-position, position-of, order-in}
 use Rattle.fill.specs.Arrays.{Indexes}
 
 -- no word of a list comes twice
@@ -90,3 +90,9 @@ ran-map ps few tree f old i cells n h r =
     let m : length (map f (order ps)) ≡ length ps = length-map (order ps) f ∙ order-length ps (omega arith) tree in
     ext-getD 0 cells (map f (order ps)) (omega (arith, r .0)) (λ k b.
     r .1 k (omega (arith, r .0)) ∙ sym (array-at ps few tree f k (omega (arith, r .0))))
+
+-- the preorder names each cell of a section by entry
+pub order-indexes : (ps : List ℕ) → length ps ≤ mostEntries → Tree ps → (ord cells : List ℕ) → ord ≡ order ps → length cells ≡ length ps → Indexes ord cells
+order-indexes ps few tree ord cells e n =
+    let q : length ord ≡ length ps = ap length e ∙ order-length ps (omega arith) tree in
+    record { room = omega arith; inside = λ i h. rw e (omega (arith, order-in ps (omega arith) tree i (omega arith))) }
