@@ -1,0 +1,5 @@
+-- How the passes over the preorder fill their sections.
+pub mod Spreading
+pub mod Laddering
+pub mod Kinding
+pub mod Rising

@@ -1,0 +1,235 @@
+-- LADDERS: the ancestors before a path top's own word, one climb further, and every word that is right stays right. Assumes nothing.
+use mathlib.Core.Path.{_≡_, refl, sym, ap, _∙_}
+use mathlib.Core.List.{List, flatten}
+use mathlib.Core.Bool.{true, false}
+use mathlib.Core.Option.{some, Option·some-injective}
+use Prim.Native.Nat.{ℕ, _+_, _*_, _-_, _≤_, _<_, min}
+use native.Mathlib.Omega.{arith}
+use native.Mathlib.Decide.{ℕ-discrete, decLt, decLe}
+use borrow.Author.Count.{below-more}
+use lib.ListN.{length, getD, set, length-set, List·getD-eq-default, getD-replicate, length-replicate, replicate}
+use lib.Seq.{getD-set-same, getD-set-other}
+use Rattle.base.specs.Limits.{mostEntries}
+use Rattle.base.proofs.Lists.{clash}
+use Rattle.tree.specs.Parents.{topMark, up, depth}
+use Rattle.tree.specs.Forest.{height, position, pathTop}
+use Rattle.tree.specs.Faults.{Tree}
+use Rattle.tree.proofs.Climbing.{entry-in, entry-some, up-first, up-add}
+use Rattle.tree.proofs.Depths.{up-some}
+use Rattle.tree.proofs.Positions.{order-length, position-in, at-position, order-in}
+use Rattle.table.specs.Ladders.{ladders, ladPos}
+use Rattle.climbs.proofs.Ladders.{rise, ladpos-top, ladpos-in, ladder-own, lemma-5}
+use Rattle.climbs.proofs.Room.{ladders-fit}
+use Rattle.climbs.proofs.Filling.{filled}
+use Rattle.fill.specs.Arrays.{entryAt, abovePosition, Climbs, Risen, Rungs, Laddered}
+use Rattle.fill.proofs.Laddering.{array-length, array-word, above-parent}
+
+-- so many climbs up, at a position
+pub record Climbed (ps : List ℕ) (v k at : ℕ) : Type 0 where
+  pub inside : at < length ps
+  pub reached : up ps k v ≡ some (entryAt ps at)
+
+module _ (ps ord above : List ℕ) (c : Climbs ps ord above) where
+  small : length ps ≤ topMark
+  small = let few = c .few in omega (arith, few)
+
+  pub ord-length : length ord ≡ length ps
+  ord-length = ap length (c .order-is) ∙ order-length ps small (c .tree)
+
+  pub overs-length : length above ≡ length ps
+  overs-length = array-length ps (c .few) (c .tree) (abovePosition ps) above (c .aboves)
+
+  pub ord-word : (i : ℕ) → getD ord i 0 ≡ entryAt ps i
+  ord-word i = ap (λ l. getD l i 0) (c .order-is)
+
+  pub climbed-none : (i : ℕ) → i < length ps → Climbed ps (entryAt ps i) 0 i
+  unfolding up
+  climbed-none i h = record { inside = h; reached = entry-in ps (entryAt ps i) (order-in ps small (c .tree) i h) }
+
+  -- one climb further
+  pub climbed-more : (v k at : ℕ) → v < length ps → k < depth ps v → Climbed ps v k at → Climbed ps v (k + 1) (getD above at 0)
+  unfolding up
+  climbed-more v k at h b s =
+      let (u, e) = up-some ps small (c .tree) (k + 1) v h (omega arith) in
+      let q : up ps 1 (entryAt ps at) ≡ some u = sym (up-add ps k 1 v (entryAt ps at) (s .reached)) ∙ e in
+      let (p, f, r) = up-first ps 0 (entryAt ps at) u q in
+      let (z, y) = entry-some ps p u r in
+      let w : getD above at 0 ≡ position ps p = array-word ps (c .few) (c .tree) (abovePosition ps) above (c .aboves) at (s .inside) ∙ above-parent ps (c .few) (c .tree) (entryAt ps at) p f in
+      let n : p < length ps = omega (arith, z) in
+      record {
+        inside = omega (arith, w, position-in ps small (c .tree) p n);
+        reached = e ∙ ap some (sym (ap (entryAt ps) w ∙ at-position ps small (c .tree) p n ∙ z));
+      }
+
+  pub climbed-on : (i k at : ℕ) → i < length ord → k < depth ps (entryAt ps i) → Climbed ps (entryAt ps i) k at → Climbed ps (entryAt ps i) (k + 1) (getD above at 0)
+  climbed-on i k at h b s = climbed-more (entryAt ps i) k at (order-in ps small (c .tree) i (omega (arith, ord-length))) b s
+
+pub risen-none : (ps : List ℕ) (v place : ℕ) (old : List ℕ) → Risen ps v place 0 old old
+risen-none ps v place old = record { same = refl; before = λ j h. refl; behind = λ j h. refl; words = λ k u a b. absurd (omega arith) }
+
+-- one word more, before those so far
+pub risen-more : (ps : List ℕ) (v place k : ℕ) (old new : List ℕ) (x : ℕ) → k < place → place ≤ length old → up ps (k + 1) v ≡ some x → Risen ps v place k old new
+    → Risen ps v place (k + 1) old (set new (place - (k + 1)) x)
+risen-more ps v place k old new x h b e r =
+    let at = place - (k + 1) in
+    let n : at < length new = omega (arith, r .same) in
+    let before : (j : ℕ) → j < k + 1 → (u : ℕ) → 1 ≤ j → up ps j v ≡ some u → getD (set new at x) (place - j) 0 ≡ u
+    = λ j l u a q. getD-set-other new at (place - j) x 0 (λ z. omega arith) ∙ r .words j u a (omega arith) q in
+    let here : (u : ℕ) → 1 ≤ k + 1 → up ps (k + 1) v ≡ some u → getD (set new at x) (place - (k + 1)) 0 ≡ u
+    = λ u a q. getD-set-same new at x 0 n ∙ Option·some-injective x u (sym e ∙ q) in
+    record {
+      same = length-set new at x ∙ r .same;
+      before = λ j l. getD-set-other new at j x 0 (λ z. omega arith) ∙ r .before j (omega arith);
+      behind = λ j l. getD-set-other new at j x 0 (λ z. omega arith) ∙ r .behind j l;
+      words = λ j u a l. below-more (λ j. (u : ℕ) → 1 ≤ j → up ps j v ≡ some u → getD (set new at x) (place - j) 0 ≡ u) (k + 1) before here j (omega arith) u a;
+    }
+
+-- a word is that of the ladders
+abbrev pub Right : List ℕ → List ℕ → ℕ → Type 0
+Right ps cells j = getD cells j 0 ≡ getD (flatten (ladders ps)) j 0
+
+-- the words of the first i positions are right, and those behind all ladders
+pub record Filling (ps : List ℕ) (i : ℕ) (cells : List ℕ) : Type 0 where
+  pub size : length cells ≡ 2 * length ps
+  pub own : (k : ℕ) → k < i → Right ps cells (ladPos ps (entryAt ps k))
+  pub over : (k : ℕ) → k < i → pathTop ps (entryAt ps k) ≡ true → (m : ℕ) → 1 ≤ m → m ≤ rise ps (entryAt ps k) → Right ps cells (ladPos ps (entryAt ps k) - m)
+  pub past : (j : ℕ) → length (flatten (ladders ps)) ≤ j → Right ps cells j
+
+-- a right word keeps every other
+right-set : (ps cells : List ℕ) (at x j : ℕ) → at < length cells → x ≡ getD (flatten (ladders ps)) at 0 → Right ps cells j → Right ps (set cells at x) j
+right-set ps cells at x j h e r = go (ℕ-discrete j at)
+  where
+    go : Dec (j ≡ at) → Right ps (set cells at x) j
+    go (yes q) = rw q (getD-set-same cells at x 0 h ∙ e)
+    go (no q) = getD-set-other cells at j x 0 q ∙ r
+
+module _ (ps : List ℕ) (small : length ps ≤ topMark) (tree : Tree ps) where
+  pub fill-none : (n : ℕ) (cells : List ℕ) → n ≡ 2 * length ps → cells ≡ replicate n 0 → Filling ps 0 cells
+  fill-none n cells b e = record {
+    size = ap length e ∙ length-replicate {A = ℕ} n 0 ∙ b;
+    own = λ k h. absurd (omega arith);
+    over = λ k h. absurd (omega arith);
+    past = λ j h. ap (λ l. getD l j 0) e ∙ go j (decLt j n) ∙ sym (List·getD-eq-default (flatten (ladders ps)) 0 h);
+  }
+    where
+      go : (j : ℕ) → Dec (j < n) → getD (replicate {A = ℕ} n 0) j 0 ≡ 0
+      go j (yes l) = getD-replicate n j 0 0 l
+      go j (no l) = List·getD-eq-default (replicate {A = ℕ} n 0) 0 (omega (arith, length-replicate {A = ℕ} n 0))
+
+  pub fill-end : (cells : List ℕ) → Filling ps (length ps) cells → Laddered ps cells
+  unfolding Laddered
+  fill-end cells s = filled ps small tree cells (s .size) own over (λ j h b. s .past j h ∙ List·getD-eq-default (flatten (ladders ps)) 0 h)
+    where
+      own : (v : ℕ) → v < length ps → getD cells (ladPos ps v) 0 ≡ v
+      own v h = (rw (at-position ps small tree v h) at (s .own (position ps v) (position-in ps small tree v h))) ∙ ladder-own ps small tree v h
+
+      over : (t k u : ℕ) → t < length ps → pathTop ps t ≡ true → 1 ≤ k → k ≤ rise ps t → up ps k t ≡ some u → getD cells (ladPos ps t - k) 0 ≡ u
+      over t k u h b a l e =
+          let q = at-position ps small tree t h in
+          let w = s .over (position ps t) (position-in ps small tree t h) (ap (pathTop ps) q ∙ b) k a (rw q l) in
+          (rw q at w) ∙ lemma-5 ps small tree t k u (omega arith) e .1
+
+  module _ (i : ℕ) (h : i < length ps) where
+    abbrev v : ℕ
+    v = entryAt ps i
+
+    hv : v < length ps
+    hv = order-in ps small tree i h
+
+    pub place-room : (cells : List ℕ) → Filling ps i cells → ladPos ps v < length cells
+    place-room cells s = omega (arith, s .size, ladpos-in ps small tree v hv, ladders-fit ps small tree)
+
+    -- one position further
+    fill-more : (cells new : List ℕ) → Filling ps i cells → length new ≡ length cells → ((j : ℕ) → Right ps cells j → Right ps new j) → Right ps new (ladPos ps v)
+        → (pathTop ps v ≡ true → (m : ℕ) → 1 ≤ m → m ≤ rise ps v → Right ps new (ladPos ps v - m)) → Filling ps (i + 1) new
+    fill-more cells new s n keeps own over = record {
+      size = n ∙ s .size;
+      own = below-more (λ k. Right ps new (ladPos ps (entryAt ps k))) i (λ k l. keeps _ (s .own k l)) own;
+      over = below-more (λ k. pathTop ps (entryAt ps k) ≡ true → (m : ℕ) → 1 ≤ m → m ≤ rise ps (entryAt ps k) → Right ps new (ladPos ps (entryAt ps k) - m)) i (λ k l t m a b. keeps _ (s .over k l t m a b)) over;
+      past = λ j l. keeps j (s .past j l);
+    }
+
+    own-right : (cells : List ℕ) → Filling ps i cells → (j : ℕ) → Right ps cells j → Right ps (set cells (ladPos ps v) v) j
+    own-right cells s j r = right-set ps cells (ladPos ps v) v j (place-room cells s) (sym (ladder-own ps small tree v hv)) r
+
+    own-here : (cells : List ℕ) → Filling ps i cells → Right ps (set cells (ladPos ps v) v) (ladPos ps v)
+    own-here cells s = getD-set-same cells (ladPos ps v) v 0 (place-room cells s) ∙ sym (ladder-own ps small tree v hv)
+
+    pub fill-inner : (cells : List ℕ) → Filling ps i cells → pathTop ps v ≡ false → Filling ps (i + 1) (set cells (ladPos ps v) v)
+    fill-inner cells s t = fill-more cells _ s (length-set cells (ladPos ps v) v) (own-right cells s) (own-here cells s) (λ e. clash (sym t ∙ e))
+
+    -- the ancestors before a path top's word
+    module _ (old new : List ℕ) (r : Risen ps v (ladPos ps v) (rise ps v) old new) where
+      risen-here : (m : ℕ) → 1 ≤ m → m ≤ rise ps v → Right ps new (ladPos ps v - m)
+      risen-here m a b =
+          let (u, e) = up-some ps small tree m v hv (omega arith) in
+          r .words m u a b e ∙ sym (lemma-5 ps small tree v m u (omega arith) e .1)
+
+      risen-keeps : (j : ℕ) → Right ps old j → Right ps new j
+      risen-keeps j q = go (decLt (j + rise ps v) (ladPos ps v)) (decLe (ladPos ps v) j)
+        where
+          go : Dec (j + rise ps v < ladPos ps v) → Dec (ladPos ps v ≤ j) → Right ps new j
+          go (yes a) b = r .before j a ∙ q
+          go (no a) (yes b) = r .behind j b ∙ q
+          go (no a) (no b) =
+              let z : ladPos ps v - (ladPos ps v - j) ≡ j = omega arith in
+              rw z at (risen-here (ladPos ps v - j) (omega arith) (omega arith))
+
+    pub fill-top : (cells new : List ℕ) → Filling ps i cells → Risen ps v (ladPos ps v) (rise ps v) (set cells (ladPos ps v) v) new → Filling ps (i + 1) new
+    fill-top cells new s r = fill-more cells new s (r .same ∙ length-set cells (ladPos ps v) v) (λ j q. risen-keeps (set cells (ladPos ps v) v) new r j (own-right cells s j q))
+        (risen-keeps (set cells (ladPos ps v) v) new r (ladPos ps v) (own-here cells s)) (λ e. risen-here (set cells (ladPos ps v) v) new r)
+
+-- the same from the arrays
+module _ (ps ord places deep high long above : List ℕ) (r : Rungs ps ord places deep high long above) where
+  few : length ps ≤ mostEntries
+  few = r .runs .paths .few
+
+  tree-of : Tree ps
+  tree-of = r .runs .paths .tree
+
+  pub climbs-of : Climbs ps ord above
+  climbs-of = record { few = few; tree = tree-of; order-is = r .order-is; aboves = r .runs .paths .aboves }
+
+  pub rungs-length : length ord ≡ length ps
+  rungs-length = ord-length ps ord above climbs-of
+
+  pub places-length : length places ≡ length ord
+  places-length = array-length ps few tree-of (ladPos ps) places (r .places-are) ∙ sym rungs-length
+
+  pub depths-length : length deep ≡ length ord
+  depths-length = array-length ps few tree-of (depth ps) deep (r .runs .depths) ∙ sym rungs-length
+
+  pub heights-length : length high ≡ length ord
+  heights-length = array-length ps few tree-of (height ps) high (r .runs .heights) ∙ sym rungs-length
+
+  pub uppers-length : length above ≡ length ord
+  uppers-length = overs-length ps ord above climbs-of ∙ sym rungs-length
+
+  module _ (i : ℕ) (h : i < length ord) where
+    pub place-word : getD places i 0 ≡ ladPos ps (entryAt ps i)
+    place-word = array-word ps few tree-of (ladPos ps) places (r .places-are) i (omega (arith, rungs-length))
+
+    pub rise-word : min (getD high i 0) (getD deep i 0) ≡ rise ps (entryAt ps i)
+    rise-word = rw (array-word ps few tree-of (height ps) high (r .runs .heights) i (omega (arith, rungs-length)), array-word ps few tree-of (depth ps) deep (r .runs .depths) i (omega (arith, rungs-length)))
+
+    -- a path top's ancestors stand behind the section's start
+    pub rise-room : pathTop ps (entryAt ps i) ≡ true → min (getD high i 0) (getD deep i 0) ≤ getD places i 0
+    rise-room t =
+        let n : length ps ≤ topMark = omega (arith, few) in
+        omega (arith, rise-word, place-word, ladpos-top ps n tree-of (entryAt ps i) (order-in ps n tree-of i (omega (arith, rungs-length))) t)
+
+    pub write-room : (cells : List ℕ) → Filling ps i cells → getD places i 0 < length cells
+    write-room cells s = omega (arith, place-word, place-room ps (omega (arith, few)) tree-of i (omega (arith, rungs-length)) cells s)
+
+    own-cells : (cells : List ℕ) → set cells (getD places i 0) (getD ord i 0) ≡ set cells (ladPos ps (entryAt ps i)) (entryAt ps i)
+    own-cells cells = ap (λ j. set cells j (getD ord i 0)) place-word ∙ ap (set cells (ladPos ps (entryAt ps i))) (ap (λ l. getD l i 0) (r .order-is))
+
+    pub fill-next : (cells : List ℕ) → Filling ps i cells → pathTop ps (entryAt ps i) ≡ false → Filling ps (i + 1) (set cells (getD places i 0) (getD ord i 0))
+    fill-next cells s t = rw (own-cells cells) (fill-inner ps (omega (arith, few)) tree-of i (omega (arith, rungs-length)) cells s t)
+
+    pub fill-over : (cells new : List ℕ) (count : ℕ) → count ≡ min (getD high i 0) (getD deep i 0) → Filling ps i cells
+        → Risen ps (entryAt ps i) (getD places i 0) count (set cells (getD places i 0) (getD ord i 0)) new → Filling ps (i + 1) new
+    fill-over cells new count e s q =
+        let w : Risen ps (entryAt ps i) (ladPos ps (entryAt ps i)) (rise ps (entryAt ps i)) (set cells (ladPos ps (entryAt ps i)) (entryAt ps i)) new
+        = rw (own-cells cells, place-word, e ∙ rise-word) at q in
+        fill-top ps (omega (arith, few)) tree-of i (omega (arith, rungs-length)) cells new s w

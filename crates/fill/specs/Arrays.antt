@@ -1,0 +1,94 @@
+-- Arrays by preorder position, and the sections that a pass over them leaves. Assumes nothing.
+use mathlib.Core.Path.{_≡_}
+use mathlib.Core.List.{List, map, flatten}
+use mathlib.Core.Option.{some, Option·elim}
+use Prim.Native.Nat.{ℕ, _+_, _*_, _-_, _≤_, _<_}
+use lib.ListN.{length, getD}
+use Rattle.base.specs.Limits.{mostEntries, groupLimit}
+use Rattle.base.specs.Lists.{below, padded}
+use Rattle.tree.specs.Parents.{topMark, parent, up, depth}
+use Rattle.tree.specs.Forest.{size, height, order, position, longChild}
+use Rattle.tree.specs.Faults.{Tree}
+use Rattle.table.specs.Ladders.{pathTops, ladders, ladPos}
+use Rattle.table.specs.Groups.{groupRoots, jumpNodes, kind}
+
+-- words that are all below the length of a section, one for each of its cells
+pub record Indexes (order cells : List ℕ) : Type 0 where
+  pub room : length order ≡ length cells
+  pub inside : (i : ℕ) → i < length order → getD order i 0 < length cells
+
+-- an array in preorder of a list that forms one tree, and the list's section by entry
+unfoldable pub Scattered : List ℕ → List ℕ → List ℕ → Type 0
+Scattered ord values cells =
+    (ps : List ℕ) (f : ℕ → ℕ) → length ps ≤ mostEntries → Tree ps → ord ≡ order ps → values ≡ map f (order ps) → cells ≡ below (length ps) f
+
+-- PRE
+unfoldable pub Placed : List ℕ → List ℕ → Type 0
+Placed ord cells = (ps : List ℕ) → length ps ≤ mostEntries → Tree ps → ord ≡ order ps → cells ≡ below (length ps) (position ps)
+
+-- the entry at a position
+abbrev pub entryAt : List ℕ → ℕ → ℕ
+entryAt ps i = getD (order ps) i 0
+
+-- the position of the entry above v, and of the child to which its long path continues, or the top mark
+unfoldable pub abovePosition : List ℕ → ℕ → ℕ
+abovePosition ps v = Option·elim (parent ps v) topMark (position ps)
+
+unfoldable pub longPosition : List ℕ → ℕ → ℕ
+longPosition ps v = Option·elim (longChild ps v) topMark (position ps)
+
+-- LONG and ABOVE of a list that forms one tree
+pub record Paths (ps long above : List ℕ) : Type 0 where
+  pub few : length ps ≤ mostEntries
+  pub tree : Tree ps
+  pub longs : long ≡ map (longPosition ps) (order ps)
+  pub aboves : above ≡ map (abovePosition ps) (order ps)
+
+-- with DEPTH and HEIGHT
+pub record Runs (ps deep high long above : List ℕ) : Type 0 where
+  pub paths : Paths ps long above
+  pub depths : deep ≡ map (depth ps) (order ps)
+  pub heights : high ≡ map (height ps) (order ps)
+
+-- LADPOS by position, with the numbers of long paths and of the words of their ladders
+pub record Laid (ps : List ℕ) (paths words : ℕ) (places : List ℕ) : Type 0 where
+  pub paths-are : paths ≡ length (pathTops ps)
+  pub words-are : words ≡ length (flatten (ladders ps))
+  pub places-are : places ≡ map (ladPos ps) (order ps)
+
+-- SIZE and ABOVE of a list that forms one tree
+pub record Families (ps sizes above : List ℕ) : Type 0 where
+  pub few : length ps ≤ mostEntries
+  pub tree : Tree ps
+  pub sizes-are : sizes ≡ map (size ps) (order ps)
+  pub aboves : above ≡ map (abovePosition ps) (order ps)
+
+-- KIND by position, with the numbers of groups and of jump entries
+pub record Kinded (ps : List ℕ) (groups jumps : ℕ) (kinds : List ℕ) : Type 0 where
+  pub groups-are : groups ≡ length (groupRoots groupLimit ps)
+  pub jumps-are : jumps ≡ length (jumpNodes groupLimit ps)
+  pub kinds-are : kinds ≡ map (kind groupLimit ps) (order ps)
+
+-- ORDER and ABOVE of a list that forms one tree
+pub record Climbs (ps ord above : List ℕ) : Type 0 where
+  pub few : length ps ≤ mostEntries
+  pub tree : Tree ps
+  pub order-is : ord ≡ order ps
+  pub aboves : above ≡ map (abovePosition ps) (order ps)
+
+-- the ancestors of v, the nearest last, in the words before a place, and all else as it was
+pub record Risen (ps : List ℕ) (v place count : ℕ) (old new : List ℕ) : Type 0 where
+  pub same : length new ≡ length old
+  pub before : (j : ℕ) → j + count < place → getD new j 0 ≡ getD old j 0
+  pub behind : (j : ℕ) → place ≤ j → getD new j 0 ≡ getD old j 0
+  pub words : (k u : ℕ) → 1 ≤ k → k ≤ count → up ps k v ≡ some u → getD new (place - k) 0 ≡ u
+
+-- what LADDERS is laid from
+pub record Rungs (ps ord places deep high long above : List ℕ) : Type 0 where
+  pub runs : Runs ps deep high long above
+  pub order-is : ord ≡ order ps
+  pub places-are : places ≡ map (ladPos ps) (order ps)
+
+-- LADDERS
+unfoldable pub Laddered : List ℕ → List ℕ → Type 0
+Laddered ps cells = cells ≡ padded (2 * length ps) (flatten (ladders ps))

@@ -1,0 +1,2 @@
+-- What the functions that fill the table read and leave.
+pub mod Arrays

@@ -1,0 +1,4 @@
+// One function for each section of the table, from arrays by preorder position.
+mod kinds;
+mod laying;
+mod spread;

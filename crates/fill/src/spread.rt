@@ -1,0 +1,56 @@
+// The sections of n words: a word for each entry, from arrays with a word for each position.
+ghost use mathlib.Core.Path.{_≡_};
+ghost use Prim.Native.Nat.{_≤_};
+ghost use lib.ListN.{length, replicate};
+ghost use Rattle.base.specs.Limits.{mostEntries};
+ghost use Rattle.fill.specs.Arrays.{Indexes, Scattered, Placed};
+use base::Node;
+
+// The word of each position into the cell of the entry that stands there.
+pub(crate) fn scatter(order: &[u32], values: &[u32], cells: &mut [u32])
+    requires { ⌜ (Indexes (now order) (now cells)) × (length (now values) ≡ length (now order)) ⌝ }
+    ensures { λ _. ⌜ Scattered (now (order .entry)) (now (values .entry)) (now (cells .exit)) ⌝ }
+{
+    let mut i: usize = 0;
+    while i < order.len() {
+        let v = Node(order[i]);
+        cells[v.0 as usize] = values[i];
+        i += 1;
+    }
+}
+
+// Each position into the cell of the entry that stands there.
+pub(crate) fn positions(order: &[u32], cells: &mut [u32])
+    requires { ⌜ (Indexes (now order) (now cells)) × (length (now order) ≤ mostEntries) ⌝ }
+    ensures { λ _. ⌜ Placed (now (order .entry)) (now (cells .exit)) ⌝ }
+{
+    let mut i: usize = 0;
+    while i < order.len() {
+        let v = Node(order[i]);
+        cells[v.0 as usize] = i as u32;
+        i += 1;
+    }
+}
+
+// One array into another of the same length.
+pub(crate) fn copy(from: &[u32], to: &mut [u32])
+    requires { ⌜ length (now from) ≡ length (now to) ⌝ }
+    ensures { λ _. ⌜ now (to .exit) ≡ now (from .entry) ⌝ }
+{
+    let mut i: usize = 0;
+    while i < from.len() {
+        to[i] = from[i];
+        i += 1;
+    }
+}
+
+// Zeros.
+pub(crate) fn zero(cells: &mut [u32])
+    ensures { λ _. ⌜ now (cells .exit) ≡ replicate (length (now (cells .entry))) 0 ⌝ }
+{
+    let mut i: usize = 0;
+    while i < cells.len() {
+        cells[i] = 0;
+        i += 1;
+    }
+}
