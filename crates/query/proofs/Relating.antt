@@ -7,7 +7,7 @@ use native.Mathlib.Omega.{arith}
 use native.Mathlib.Decide.{decLt}
 use lib.ListN.{length, take}
 use lib.Dec.{leb, ltb}
-use borrow.Author.Tests.{le-leb, lt-leb, lt-ltb, le-ltb}
+use borrow.Author.Tests.{le-leb, lt-leb, lt-ltb, le-ltb, eq-eqb, ne-eqb}
 use Rattle.base.specs.Numbers.{Outcome}
 use Rattle.answers.specs.Reading.{Reading, ifLe, ifLt, andThen, run, trace}
 use Rattle.answers.specs.Answers.{pushedAll, listed, answerTo, answerFrom}
@@ -33,7 +33,7 @@ in-time first size other h = rw (le-leb first other h) (go (decLt (other - first
 
 -- a relation that is known goes on by the test
 pub compared-goes : (t : List ℕ) (n : ℕ) (cs : Cells) (w first size other : ℕ) (above : ℕ → Reading) (apart : Reading)
-    → relatedFrom t n (record { known = true; above = leb first other && ltb other (first + size); word = w; cells = cs }) above apart
+    → relatedFrom t (record { number = 0; n = n; above = leb first other && ltb other (first + size); word = w; cells = cs }) above apart
     ≡ answerFrom t cs (compared (above n) apart first size other)
 unfolding relatedFrom compared ifLe ifLt
 compared-goes t n cs w first size other above apart = go (leb first other) (ltb other (first + size))
@@ -53,20 +53,20 @@ inner-goes r t cs p f a all e h g =
     g ∙ (rw (e, cells)) ∙ sym (then-is t cs p f)
 
 -- a relation by what it found
-module _ (t : List ℕ) (n : ℕ) (r : Relation) (above : ℕ → Reading) (apart : Reading) where
-  pub relation-unknown : r .known ≡ false → relatedFrom t n r above apart ≡ record { number = 7; word = r .word; cells = r .cells }
+module _ (t : List ℕ) (r : Relation) (above : ℕ → Reading) (apart : Reading) where
+  pub relation-refused : (r .number ≡ 0 → ⊥) → relatedFrom t r above apart ≡ record { number = r .number; word = r .word; cells = r .cells }
   unfolding relatedFrom
-  relation-unknown k = rw k
+  relation-refused k = rw (ne-eqb (r .number) 0 k)
 
-  pub relation-apart : r .known ≡ true → r .above ≡ false → relatedFrom t n r above apart ≡ answerFrom t (r .cells) apart
+  pub relation-apart : r .number ≡ 0 → r .above ≡ false → relatedFrom t r above apart ≡ answerFrom t (r .cells) apart
   unfolding relatedFrom
-  relation-apart k a = rw (k, a)
+  relation-apart k a = rw (eq-eqb (r .number) 0 k, a)
 
-  pub relation-above : r .known ≡ true → r .above ≡ true → relatedFrom t n r above apart ≡ answerFrom t (r .cells) (above n)
+  pub relation-above : r .number ≡ 0 → r .above ≡ true → relatedFrom t r above apart ≡ answerFrom t (r .cells) (above (r .n))
   unfolding relatedFrom
-  relation-above k a = rw (k, a)
+  relation-above k a = rw (eq-eqb (r .number) 0 k, a)
 
 -- from step 1 through the ancestry reads
 pub opened-related : (t : List ℕ) (o : Count) (r : Relation) (u v : ℕ) (above : ℕ → Reading) (apart : Reading) → OpenedBy t o → (o .n ≡ 0 → ⊥)
-    → relatedFrom t (o .n) r above apart ≡ answerFrom t (o .cells) (related u v above apart (o .n)) → relatedFrom t (o .n) r above apart ≡ answerFrom t (listed []) (opened (length t) (related u v above apart))
+    → relatedFrom t r above apart ≡ answerFrom t (o .cells) (related u v above apart (o .n)) → relatedFrom t r above apart ≡ answerFrom t (listed []) (opened (length t) (related u v above apart))
 opened-related t o r u v above apart b z e = e ∙ sym (open-next t o (related u v above apart) z) ∙ b .goes (related u v above apart)

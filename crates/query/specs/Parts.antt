@@ -47,9 +47,9 @@ pub record OpenedBy (t : List ℕ) (o : Count) : Type 0 where
   pub one : (o .n ≡ 0 → ⊥) → o .cells .count ≡ 1
   pub goes : (next : ℕ → Reading) → openFrom t o next ≡ answerFrom t (listed []) (opened (length t) next)
 
--- what a relation of u to v gives two programs, one for "at or above" and one for not
-unfoldable pub relatedFrom : List ℕ → ℕ → Relation → (ℕ → Reading) → Reading → Answer
-relatedFrom t n r above apart =
-    pickAnswer (r .known)
-    (pickAnswer (r .above) (answerFrom t (r .cells) (above n)) (answerFrom t (r .cells) apart))
-    (record { number = 7; word = r .word; cells = r .cells })
+-- what a relation of u to v gives two programs, one for "at or above" and one for not; or its refusal
+unfoldable pub relatedFrom : List ℕ → Relation → (ℕ → Reading) → Reading → Answer
+relatedFrom t r above apart =
+    pickAnswer (eqb (r .number) 0)
+    (pickAnswer (r .above) (answerFrom t (r .cells) (above (r .n))) (answerFrom t (r .cells) apart))
+    (record { number = r .number; word = r .word; cells = r .cells })

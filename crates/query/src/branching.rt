@@ -8,10 +8,9 @@ ghost use Rattle.answers.specs.Answers.{listed, answerFrom};
 ghost use Rattle.answers.specs.Steps.{branch, strictly, deeper};
 use crate::joining::joined;
 use crate::look::look;
-use crate::look::opened;
 use crate::reading::broken;
 use crate::reading::read;
-use crate::relate::related;
+use crate::relate::stand;
 use answers::Answer;
 use answers::Cells;
 use base::Node;
@@ -57,27 +56,21 @@ pub(crate) fn strictly(table: &[u32], n: u32, u: Node, v: Node, cells: Cells) ->
 pub(crate) fn child_towards(table: &[u32], u: Node, v: Node) -> Answer
     ensures { λ r. ⌜ r ≡ answerFrom (now (table .entry)) (listed []) (branch (length (now (table .entry))) (u .0) (v .0)) ⌝ }
 {
-    let count = opened(table);
-    let n = count.n;
-    let cells = count.cells;
-    if n == 0 {
-        return broken(cells);
-    }
-    let relation = related(table, n, u, v, cells);
-    let more = relation.cells;
-    if !relation.known {
+    let relation = stand(table, u, v);
+    let cells = relation.cells;
+    if relation.number != 0 {
         return Answer {
-            number: 7,
+            number: relation.number,
             word: relation.word,
-            cells: more,
+            cells,
         };
     }
     if !relation.above {
         return Answer {
             number: 10,
             word: u.0,
-            cells: more,
+            cells,
         };
     }
-    strictly(table, n, u, v, more)
+    strictly(table, relation.n, u, v, cells)
 }

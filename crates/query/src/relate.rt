@@ -8,19 +8,19 @@ ghost use lib.Dec.{leb, ltb};
 ghost use Rattle.base.specs.Limits.{Sized};
 ghost use Rattle.answers.specs.Reading.{Reading};
 ghost use Rattle.answers.specs.Answers.{listed, answerFrom};
-ghost use Rattle.answers.specs.Steps.{related, ancestry};
+ghost use Rattle.answers.specs.Steps.{opened, related, ancestry};
 ghost use Rattle.query.specs.Parts.{relatedFrom};
 use crate::look::opened;
-use crate::reading::broken;
 use crate::reading::read;
 use answers::Answer;
 use answers::Cells;
 use base::Node;
 use base::Position;
 
-// How u stands to v: at or above it, or not; where an argument is not known, that one.
+// How u stands to v in a table of n entries: at or above it, or not. Where that is refused, the refusal's number and what it names; else 0.
 pub struct Relation {
-    pub known: bool,
+    pub number: u32,
+    pub n: u32,
     pub above: bool,
     pub word: u32,
     pub cells: Cells,
@@ -39,7 +39,8 @@ fn holds(first: Position, size: u32, other: Position) -> bool
 // The reads of ancestry: PRE and SIZE of u, PRE of v.
 fn compared(table: &[u32], n: u32, u: Node, v: Node, cells: Cells) -> Relation
     requires { ⌜ (Sized (now table) n) × (u .0 < n) × (v .0 < n) ⌝ }
-    ensures { λ r. ⌜ ((above : ℕ → Reading) (apart : Reading) → relatedFrom (now (table .entry)) n r above apart ≡ answerFrom (now (table .entry)) cells (related (u .0) (v .0) above apart n)) ⌝ }
+    ensures same { λ r. ⌜ r .n ≡ n ⌝ }
+    ensures goes { λ r. ⌜ ((above : ℕ → Reading) (apart : Reading) → relatedFrom (now (table .entry)) r above apart ≡ answerFrom (now (table .entry)) cells (related (u .0) (v .0) above apart n)) ⌝ }
 {
     let pre_u = read(table, 4 + 4 * n + u.0, cells);
     let one = pre_u.cells;
@@ -48,21 +49,23 @@ fn compared(table: &[u32], n: u32, u: Node, v: Node, cells: Cells) -> Relation
     let pre_v = read(table, 4 + 4 * n + v.0, two);
     let three = pre_v.cells;
     Relation {
-        known: true,
+        number: 0,
+        n,
         above: holds(Position(pre_u.word), size_u.word, Position(pre_v.word)),
         word: 0,
         cells: three,
     }
 }
 
-pub(crate) fn related(table: &[u32], n: u32, u: Node, v: Node, cells: Cells) -> Relation
+fn related(table: &[u32], n: u32, u: Node, v: Node, cells: Cells) -> Relation
     requires { ⌜ Sized (now table) n ⌝ }
-    ensures known { λ r. ⌜ (r .known ≡ true → u .0 < n) ⌝ }
-    ensures goes { λ r. ⌜ ((above : ℕ → Reading) (apart : Reading) → relatedFrom (now (table .entry)) n r above apart ≡ answerFrom (now (table .entry)) cells (related (u .0) (v .0) above apart n)) ⌝ }
+    ensures known { λ r. ⌜ (r .number ≡ 0 → (r .n ≡ n) × (u .0 < n)) ⌝ }
+    ensures goes { λ r. ⌜ ((above : ℕ → Reading) (apart : Reading) → relatedFrom (now (table .entry)) r above apart ≡ answerFrom (now (table .entry)) cells (related (u .0) (v .0) above apart n)) ⌝ }
 {
     if n <= u.0 {
         return Relation {
-            known: false,
+            number: 7,
+            n,
             above: false,
             word: u.0,
             cells,
@@ -70,7 +73,8 @@ pub(crate) fn related(table: &[u32], n: u32, u: Node, v: Node, cells: Cells) -> 
     }
     if n <= v.0 {
         return Relation {
-            known: false,
+            number: 7,
+            n,
             above: false,
             word: v.0,
             cells,
@@ -79,34 +83,48 @@ pub(crate) fn related(table: &[u32], n: u32, u: Node, v: Node, cells: Cells) -> 
     compared(table, n, u, v, cells)
 }
 
-pub(crate) fn at_or_above(table: &[u32], u: Node, v: Node) -> Answer
-    ensures { λ r. ⌜ r ≡ answerFrom (now (table .entry)) (listed []) (ancestry (length (now (table .entry))) (u .0) (v .0)) ⌝ }
+// Step 1, and the reads of ancestry.
+pub(crate) fn stand(table: &[u32], u: Node, v: Node) -> Relation
+    ensures known { λ r. ⌜ (r .number ≡ 0 → Sized (now (table .entry)) (r .n) × (u .0 < r .n)) ⌝ }
+    ensures goes { λ r. ⌜ ((above : ℕ → Reading) (apart : Reading) → relatedFrom (now (table .entry)) r above apart ≡ answerFrom (now (table .entry)) (listed []) (opened (length (now (table .entry))) (related (u .0) (v .0) above apart))) ⌝ }
 {
     let count = opened(table);
     let n = count.n;
     let cells = count.cells;
     if n == 0 {
-        return broken(cells);
+        return Relation {
+            number: 9,
+            n,
+            above: false,
+            word: 0,
+            cells,
+        };
     }
-    let relation = related(table, n, u, v, cells);
-    let more = relation.cells;
-    if !relation.known {
+    related(table, n, u, v, cells)
+}
+
+pub(crate) fn at_or_above(table: &[u32], u: Node, v: Node) -> Answer
+    ensures { λ r. ⌜ r ≡ answerFrom (now (table .entry)) (listed []) (ancestry (length (now (table .entry))) (u .0) (v .0)) ⌝ }
+{
+    let relation = stand(table, u, v);
+    let cells = relation.cells;
+    if relation.number != 0 {
         return Answer {
-            number: 7,
+            number: relation.number,
             word: relation.word,
-            cells: more,
+            cells,
         };
     }
     if !relation.above {
         return Answer {
             number: 0,
             word: 0,
-            cells: more,
+            cells,
         };
     }
     Answer {
         number: 0,
         word: 1,
-        cells: more,
+        cells,
     }
 }

@@ -1,5 +1,5 @@
 -- `relate::compared` meets its contract. Assumes nothing.
-use mathlib.Core.Path.{_≡_}
+use mathlib.Core.Path.{_≡_, refl}
 use mathlib.Core.Bool.{true}
 use denote.Ref.{now}
 use borrow.Author.Needs.{needs}
@@ -29,13 +29,16 @@ compared-spec =
     (λ c. search needs)
     (λ c κs. search needs)
     (λ c κs. search needs)
-    (λ c above apart.
-    let third = c .before .before in
-    let second = third .before .before .before in
-    let first = second .before .before .before in
-    let start = first .before .before .before in
-    let t = now (start .args .table) in
-    let last : relatedFrom t (start .args .n) (record { known = true; above = c .holds .result; word = 0; cells = third .read3 .result .cells }) above apart
-    ≡ answerFrom t (third .read3 .result .cells) (compared (above (start .args .n)) apart (first .read .result .word) (second .read2 .result .word) (third .read3 .result .word)) =
-    rw (c .holds .ensures) (compared-goes t (start .args .n) (third .read3 .result .cells) 0 (first .read .result .word) (second .read2 .result .word) (third .read3 .result .word) above apart) in
-    search (steps, start .pre .1, start .pre .2, first .read .ensures, second .read2 .ensures, third .read3 .ensures)))
+    (λ c. (
+      refl,
+      λ above apart.
+          let third = c .before .before in
+          let second = third .before .before .before in
+          let first = second .before .before .before in
+          let start = first .before .before .before in
+          let t = now (start .args .table) in
+          let last : relatedFrom t (record { number = 0; n = start .args .n; above = c .holds .result; word = 0; cells = third .read3 .result .cells }) above apart
+          ≡ answerFrom t (third .read3 .result .cells) (compared (above (start .args .n)) apart (first .read .result .word) (second .read2 .result .word) (third .read3 .result .word)) =
+          rw (c .holds .ensures) (compared-goes t (start .args .n) (third .read3 .result .cells) 0 (first .read .result .word) (second .read2 .result .word) (third .read3 .result .word) above apart) in
+          search (steps, start .pre .1, start .pre .2, first .read .ensures, second .read2 .ensures, third .read3 .ensures),
+    )))

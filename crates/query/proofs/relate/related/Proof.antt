@@ -1,6 +1,6 @@
 -- `relate::related` meets its contract. Assumes nothing.
 use borrow.Author.Needs.{needs}
-use Rattle.base.proofs.Lists.{clash}
+use native.Mathlib.Omega.{arith}
 use Rattle.answers.specs.Steps.{related}
 use Rattle.query.specs.Parts.{relatedFrom}
 use Rattle.query.proofs.Walking.{steps}
@@ -12,7 +12,7 @@ unfolding related
 related-spec =
     tie.close
     (tie.spec
-    (λ c. (λ e. clash e, λ above apart. unfold relatedFrom in search steps))
-    (λ c. (λ e. clash e, λ above apart. unfold relatedFrom in search steps))
+    (λ c. (λ e. absurd (omega arith), λ above apart. unfold relatedFrom in search steps))
+    (λ c. (λ e. absurd (omega arith), λ above apart. unfold relatedFrom in search steps))
     (λ c κs. search needs)
-    (λ c. (λ e. search needs, c .compared .ensures)))
+    (λ c. (λ e. (c .compared .ensures .0, search needs), c .compared .ensures .1)))
