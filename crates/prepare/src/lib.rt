@@ -1,4 +1,4 @@
-// Judging a parent list on a lent working space of 6n words, and preparing its table.
+// Judging a parent list on a lent working space of 6n words.
 mod faults;
 mod link;
 mod lost;
