@@ -6,3 +6,4 @@ pub mod Places
 pub mod Keeping
 pub mod Joined
 pub mod Rows
+pub mod Views

@@ -3,7 +3,7 @@ use mathlib.Core.List.{List, [], _∷_, _++_}
 use mathlib.Core.Bool.{Bool, true, false, cond}
 use mathlib.Core.Option.{Option, none, some}
 use Prim.Native.Nat.{ℕ, zero, suc, _-_}
-use lib.ListN.{length, replicate}
+use lib.ListN.{length, take, drop, replicate}
 use lib.Dec.{eqb}
 
 -- f i, f (i + 1), and so on: n of them
@@ -54,3 +54,7 @@ places (y ∷ l) i x = cond (eqb y x) (i ∷ places l (suc i) x) (places l (suc 
 -- a list with zeros behind it, up to n words
 unfoldable pub padded : ℕ → List ℕ → List ℕ
 padded n l = l ++ replicate (n - length l) 0
+
+-- the c words from a on
+unfoldable pub view : ℕ → ℕ → List ℕ → List ℕ
+view a c l = take c (drop a l)

@@ -1,16 +1,16 @@
 -- Arrays by preorder position, and the sections that a pass over them leaves. Assumes nothing.
 use mathlib.Core.Path.{_≡_}
-use mathlib.Core.List.{List, map, flatten}
+use mathlib.Core.List.{List, map, flatten, flatMap}
 use mathlib.Core.Option.{some, Option·elim}
 use Prim.Native.Nat.{ℕ, _+_, _*_, _-_, _≤_, _<_}
-use lib.ListN.{length, getD}
+use lib.ListN.{length, getD, take}
 use Rattle.base.specs.Limits.{mostEntries, groupLimit}
-use Rattle.base.specs.Lists.{below, padded}
+use Rattle.base.specs.Lists.{below, padded, view}
 use Rattle.tree.specs.Parents.{topMark, parent, up, depth}
 use Rattle.tree.specs.Forest.{size, height, order, position, longChild}
 use Rattle.tree.specs.Faults.{Tree}
 use Rattle.table.specs.Ladders.{pathTops, ladders, ladPos}
-use Rattle.table.specs.Groups.{groupRoots, jumpNodes, kind}
+use Rattle.table.specs.Groups.{groupRoots, groupWords, jumpNodes, kind}
 
 -- words that are all below the length of a section, one for each of its cells
 pub record Indexes (order cells : List ℕ) : Type 0 where
@@ -36,6 +36,22 @@ abovePosition ps v = Option·elim (parent ps v) topMark (position ps)
 
 unfoldable pub longPosition : List ℕ → ℕ → ℕ
 longPosition ps v = Option·elim (longChild ps v) topMark (position ps)
+
+-- DEPTH, and SIZE, of a list that forms one tree
+pub record Depths (ps deep : List ℕ) : Type 0 where
+  pub few : length ps ≤ mostEntries
+  pub tree : Tree ps
+  pub depths : deep ≡ map (depth ps) (order ps)
+
+pub record Sizes (ps sizes : List ℕ) : Type 0 where
+  pub few : length ps ≤ mostEntries
+  pub tree : Tree ps
+  pub sizes-are : sizes ≡ map (size ps) (order ps)
+
+-- HEIGHT and LONG, one behind the other
+pub record Tall (ps cells : List ℕ) : Type 0 where
+  pub heights : view 0 (length ps) cells ≡ map (height ps) (order ps)
+  pub longs : view (length ps) (length ps) cells ≡ map (longPosition ps) (order ps)
 
 -- LONG and ABOVE of a list that forms one tree
 pub record Paths (ps long above : List ℕ) : Type 0 where
@@ -92,3 +108,31 @@ pub record Rungs (ps ord places deep high long above : List ℕ) : Type 0 where
 -- LADDERS
 unfoldable pub Laddered : List ℕ → List ℕ → Type 0
 Laddered ps cells = cells ≡ padded (2 * length ps) (flatten (ladders ps))
+
+-- what GROUPS is laid from
+pub record Members (ps ord deep sizes above : List ℕ) : Type 0 where
+  pub families : Families ps sizes above
+  pub order-is : ord ≡ order ps
+  pub depths : deep ≡ map (depth ps) (order ps)
+
+-- GROUPS
+unfoldable pub Grouped : List ℕ → List ℕ → Type 0
+Grouped ps cells = cells ≡ padded (3 * length ps) (flatMap (groupWords groupLimit ps) (groupRoots groupLimit ps))
+
+-- ORDER and KIND of a list that forms one tree
+pub record Jumping (ps ord kinds : List ℕ) : Type 0 where
+  pub few : length ps ≤ mostEntries
+  pub tree : Tree ps
+  pub order-is : ord ≡ order ps
+  pub kinds-are : kinds ≡ below (length ps) (kind groupLimit ps)
+
+-- the jump entries, in preorder
+unfoldable pub Listed : List ℕ → List ℕ → Type 0
+Listed ps cells = take (length (jumpNodes groupLimit ps)) cells ≡ jumpNodes groupLimit ps
+
+-- LADPOS and LADDERS of a list that forms one tree
+pub record Reaching (ps places rungs : List ℕ) : Type 0 where
+  pub few : length ps ≤ mostEntries
+  pub tree : Tree ps
+  pub places-are : places ≡ below (length ps) (ladPos ps)
+  pub rungs-are : rungs ≡ padded (2 * length ps) (flatten (ladders ps))

@@ -13,7 +13,7 @@ use borrow.Author.Tests.{eq-eqb, ne-eqb, lt-ltb, le-ltb}
 use Rattle.base.specs.Lists.{places}
 use Rattle.tree.specs.Parents.{topMark, word}
 use Rattle.prepare.specs.Regions.{from, after, firstOf, Linked, heads, nexts}
-use Rattle.prepare.proofs.Views.{view-length, view-at, view-set, view-before, view-past}
+use Rattle.base.proofs.Views.{view-length, view-at, view-set, view-before, view-past}
 
 -- what holds of the stored value at its place, and of the others where they are, holds after the store
 pub at-set : (P : ℕ → Type 0) (l : List ℕ) (j a k : ℕ) → j < length l → (k ≡ j → P a) → (k ≢ j → P (getD l k 0)) → P (getD (set l j a) k 0)

@@ -4,4 +4,3 @@ pub mod Marking
 pub mod Pending
 pub mod Searches
 pub mod Verdicts
-pub mod Views

@@ -10,7 +10,7 @@ use native.Mathlib.Decide.{ℕ-discrete, decLt}
 use lib.ListN.{length, getD, set}
 use lib.Dec.{eqb}
 use borrow.Author.Tests.{not-false}
-use Rattle.base.specs.Lists.{below, first, place}
+use Rattle.base.specs.Lists.{below, first, place, view}
 use Rattle.base.proofs.Lists.{clash, first-none}
 use Rattle.base.proofs.Counts.{one}
 use Rattle.base.proofs.Places.{place-stands}
@@ -18,10 +18,10 @@ use Rattle.tree.specs.Parents.{topMark}
 use Rattle.tree.specs.Forest.{order}
 use Rattle.tree.specs.Faults.{lowest, meetsTop}
 use Rattle.tree.proofs.Forests.{order-once, order-short, order-meets, meets-full}
-use Rattle.prepare.specs.Regions.{orAll, view, Marked}
+use Rattle.prepare.specs.Regions.{orAll, Marked}
 use Rattle.prepare.proofs.Chains.{at-set}
 use Rattle.prepare.proofs.Searches.{found-some, found-none, first-same}
-use Rattle.prepare.proofs.Views.{view-length, view-at, view-set, view-past}
+use Rattle.base.proofs.Views.{view-length, view-at, view-set, view-past}
 
 -- the first i of the preorder are marked, and no entry is that does not meet the top
 pub record Marking (ps : List ℕ) (i : ℕ) (marks : List ℕ) : Type 0 where

@@ -4,13 +4,14 @@ use mathlib.Core.List.{List, [], _∷_, _++_, append-assoc, append-nil}
 use Prim.Native.Nat.{ℕ, zero, suc, _+_, _*_, _-_, _≤_, _<_}
 use native.Mathlib.Omega.{arith}
 use lib.ListN.{length, getD, set, length-append, length-set}
+use Rattle.base.specs.Lists.{view}
 use Rattle.tree.specs.Parents.{topMark, word, children}
 use Rattle.tree.specs.Forest.{Forest, empty, node, plant, grow, preorder, levels, whole, order}
 use Rattle.tree.proofs.Preorders.{whole-more}
 use Rattle.tree.proofs.Forests.{order-short}
-use Rattle.prepare.specs.Regions.{after, firstOf, Linked, heads, nexts, view}
+use Rattle.prepare.specs.Regions.{after, firstOf, Linked, heads, nexts}
 use Rattle.prepare.proofs.Chains.{sibs, sibs-in, sibs-out, sibs-from}
-use Rattle.prepare.proofs.Views.{view-length, view-at, view-before, view-past, view-more, view-push}
+use Rattle.base.proofs.Views.{view-length, view-at, view-before, view-past, view-more, view-push}
 
 -- the forest of a chain with d chains pending behind it: it hangs that deep
 abbrev hangs : List ℕ → ℕ → ℕ → Forest

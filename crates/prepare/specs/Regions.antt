@@ -5,8 +5,8 @@ use mathlib.Core.List.{List, [], _∷_}
 use mathlib.Core.Bool.{cond}
 use mathlib.Core.Option.{Option, none, some}
 use Prim.Native.Nat.{ℕ, suc, _*_, _≤_, _<_}
-use lib.ListN.{length, getD, take, drop}
-use Rattle.base.specs.Lists.{places}
+use lib.ListN.{length, getD, drop}
+use Rattle.base.specs.Lists.{places, view}
 use Rattle.tree.specs.Parents.{topMark, word}
 use Rattle.tree.specs.Forest.{order, whole, levels}
 use Rattle.tree.specs.Faults.{meetsTop}
@@ -15,10 +15,6 @@ use Rattle.tree.specs.Faults.{meetsTop}
 abbrev pub orAll : Option ℕ → ℕ → ℕ
 orAll none n = n
 orAll (some v) n = v
-
--- the c words from a on
-unfoldable pub view : ℕ → ℕ → List ℕ → List ℕ
-view a c l = take c (drop a l)
 
 -- regions 2 and 3: first children and next siblings
 abbrev pub heads : List ℕ → List ℕ → List ℕ

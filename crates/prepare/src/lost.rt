@@ -5,10 +5,10 @@ ghost use mathlib.Core.Option.{some};
 ghost use Prim.Native.Nat.{_*_, _<_, _≤_};
 ghost use lib.Dec.{eqb};
 ghost use lib.ListN.{length, getD};
-ghost use Rattle.base.specs.Lists.{below, first};
+ghost use Rattle.base.specs.Lists.{below, first, view};
 ghost use Rattle.tree.specs.Forest.{order};
 ghost use Rattle.tree.specs.Faults.{lowest, meetsTop};
-ghost use Rattle.prepare.specs.Regions.{orAll, view, Marked};
+ghost use Rattle.prepare.specs.Regions.{orAll, Marked};
 use crate::words::fill;
 use crate::words::wide;
 

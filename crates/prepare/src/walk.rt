@@ -2,8 +2,9 @@
 ghost use mathlib.Core.Path.{_≡_};
 ghost use Prim.Native.Nat.{_*_, _≤_};
 ghost use lib.ListN.{length};
+ghost use Rattle.base.specs.Lists.{view};
 ghost use Rattle.tree.specs.Forest.{order, whole, levels};
-ghost use Rattle.prepare.specs.Regions.{Linked, heads, nexts, view};
+ghost use Rattle.prepare.specs.Regions.{Linked, heads, nexts};
 use crate::words::wide;
 
 // The preorder into region 0 and the depths into region 1; hands back how many entries there are.

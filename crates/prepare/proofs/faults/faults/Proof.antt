@@ -13,7 +13,7 @@ use Rattle.tree.proofs.Forests.{order-short}
 use Rattle.prepare.specs.Regions.{after, firstOf}
 use Rattle.prepare.proofs.Searches.{found-some, found-none, no-stray}
 use Rattle.prepare.proofs.Verdicts.{says, verdict-stray, verdict-none, verdict-two, verdict-loop, verdict-whole}
-use Rattle.prepare.proofs.Views.{view-at}
+use Rattle.base.proofs.Views.{view-at}
 use Rattle.prepare.proofs.faults.faults.Statement.{statement}
 use Rattle.prepare.proofs.faults.faults.Tie as tie
 

@@ -7,10 +7,11 @@ use native.Mathlib.Omega.{arith}
 use borrow.Author.Needs.{needs}
 use borrow.Rule.Slice.PartMut.{mid-len, same-len-mid, postOf}
 use lib.ListN.{length, take, replicate, length-set}
+use Rattle.base.specs.Lists.{view}
 use Rattle.tree.specs.Parents.{topMark, word}
-use Rattle.prepare.specs.Regions.{Linked, heads, nexts, view}
+use Rattle.prepare.specs.Regions.{Linked, heads, nexts}
 use Rattle.prepare.proofs.Chains.{from-end, link-below-in, link-top-in}
-use Rattle.prepare.proofs.Views.{view-back, filled-at}
+use Rattle.base.proofs.Views.{view-back, filled-at}
 use Rattle.prepare.proofs.link.link.Statement.{statement}
 use Rattle.prepare.proofs.link.link.Tie as tie
 

@@ -5,9 +5,10 @@ use Prim.Native.Nat.{ℕ, _*_, _-_, _≤_}
 use native.Mathlib.Omega.{arith}
 use borrow.Author.Needs.{needs}
 use lib.ListN.{length, take, drop}
-use Rattle.prepare.specs.Regions.{view, Marked}
+use Rattle.base.specs.Lists.{view}
+use Rattle.prepare.specs.Regions.{Marked}
 use Rattle.prepare.proofs.Marking.{lost-is}
-use Rattle.prepare.proofs.Views.{view-length}
+use Rattle.base.proofs.Views.{view-length}
 use Rattle.prepare.proofs.lost.first_lost.Statement.{statement}
 use Rattle.prepare.proofs.lost.first_lost.Tie as tie
 

@@ -6,10 +6,10 @@ use native.Mathlib.Omega.{arith}
 use borrow.Author.Needs.{needs}
 use borrow.Rule.Slice.PartMut.{mid-len, same-len-mid, postOf}
 use lib.ListN.{length, getD, take, replicate, length-set}
+use Rattle.base.specs.Lists.{view}
 use Rattle.tree.specs.Forest.{order}
-use Rattle.prepare.specs.Regions.{view}
 use Rattle.prepare.proofs.Marking.{Marking, mark-none, mark-end, word-low, order-kept, mark-in}
-use Rattle.prepare.proofs.Views.{view-back, view-other, filled-at}
+use Rattle.base.proofs.Views.{view-back, view-other, filled-at}
 use Rattle.tree.proofs.Forests.{order-short}
 use Rattle.prepare.proofs.lost.mark.Statement.{statement}
 use Rattle.prepare.proofs.lost.mark.Tie as tie

@@ -5,9 +5,10 @@ use Prim.Native.Nat.{_+_, _*_, _-_, _≤_, _<_}
 use native.Mathlib.Omega.{arith}
 use borrow.Author.Needs.{needs}
 use lib.ListN.{length, length-set}
-use Rattle.prepare.specs.Regions.{Linked, heads, nexts, view}
+use Rattle.base.specs.Lists.{view}
+use Rattle.prepare.specs.Regions.{Linked, heads, nexts}
 use Rattle.prepare.proofs.Pending.{Walked, walk-start, walk-skip, walk-end, room-in, linked-in, emit-in}
-use Rattle.prepare.proofs.Views.{view-none, view-length, view-pop}
+use Rattle.base.proofs.Views.{view-none, view-length, view-pop}
 use Rattle.prepare.proofs.walk.walk.Statement.{statement}
 use Rattle.prepare.proofs.walk.walk.Tie as tie
 

@@ -5,7 +5,7 @@ use Prim.Native.Nat.{ℕ, _-_}
 use native.Mathlib.Omega.{arith}
 use borrow.Author.Needs.{needs}
 use lib.ListN.{length, replicate, replicate-append-replicate, drop-of-length-le}
-use Rattle.prepare.proofs.Views.{Laid, laid-none, laid-length, laid-more}
+use Rattle.base.proofs.Views.{Laid, laid-none, laid-length, laid-more}
 use Rattle.prepare.proofs.words.fill.Statement.{statement}
 use Rattle.prepare.proofs.words.fill.Tie as tie
 

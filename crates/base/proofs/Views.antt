@@ -6,7 +6,7 @@ use native.Mathlib.Omega.{arith}
 use native.Mathlib.Numerals.{add-one}
 use lib.ListN.{length, getD, take, drop, set, replicate, length-replicate, getD-replicate, length-append, length-set, length-take, length-drop, take-append-drop}
 use lib.Seq.{getD-take, getD-drop, take-set-le, take-set-lt, drop-set-lt, drop-set-add, take-suc-set, drop-append-le, take-append-le, drop-at, take-at, drop-cons, set-append-seam, getD-set-same}
-use Rattle.prepare.specs.Regions.{view}
+use Rattle.base.specs.Lists.{view}
 
 module _ (a c : ℕ) (l : List ℕ) where
   pub view-length : a + c ≤ length l → length (view a c l) ≡ c
