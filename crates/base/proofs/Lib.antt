@@ -7,3 +7,4 @@ pub mod Keeping
 pub mod Joined
 pub mod Rows
 pub mod Views
+pub mod Puts

@@ -2,7 +2,7 @@
 use mathlib.Core.List.{List, [], _∷_, _++_}
 use mathlib.Core.Bool.{Bool, true, false, cond}
 use mathlib.Core.Option.{Option, none, some}
-use Prim.Native.Nat.{ℕ, zero, suc, _-_}
+use Prim.Native.Nat.{ℕ, zero, suc, _+_, _-_}
 use lib.ListN.{length, take, drop, replicate}
 use lib.Dec.{eqb}
 
@@ -58,3 +58,7 @@ padded n l = l ++ replicate (n - length l) 0
 -- the c words from a on
 unfoldable pub view : ℕ → ℕ → List ℕ → List ℕ
 view a c l = take c (drop a l)
+
+-- a list with x in the place of its words from a on
+unfoldable pub put : List ℕ → ℕ → List ℕ → List ℕ
+put l a x = take a l ++ (x ++ drop (a + length x) l)

@@ -33,7 +33,7 @@ pub struct Counts {
 }
 
 // KIND by position. The last position of a size over 5 is a jump entry's just where the next such position lies past its family.
-pub(crate) fn kinds(size: &[u32], above: &[u32], cells: &mut [u32]) -> Counts
+pub fn kinds(size: &[u32], above: &[u32], cells: &mut [u32]) -> Counts
     requires { ⌜ ((ps : List ℕ) × Families ps (now size) (now above)) × (length (now cells) ≡ length (now size)) ⌝ }
     ensures { λ r. ⌜ ((ps : List ℕ) → Families ps (now (size .entry)) (now (above .entry)) → Kinded ps (r .groups) (r .jumps) (now (cells .exit))) ⌝ }
 {

@@ -40,7 +40,7 @@ pub struct Totals {
 }
 
 // LADPOS by position: behind all ladders so far and the path's nearest ancestors, or behind the entry above.
-pub(crate) fn ladder_places(
+pub fn ladder_places(
     depth: &[u32],
     height: &[u32],
     long: &[u32],
@@ -84,7 +84,7 @@ fn rise(order: &[u32], above: &[u32], top: Position, place: u32, count: u32, cel
 }
 
 // LADDERS: each entry at its place, the nearest ancestors of each path's top before it, and zeros behind.
-pub(crate) fn ladders(
+pub fn ladders(
     order: &[u32],
     places: &[u32],
     depth: &[u32],

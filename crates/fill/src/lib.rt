@@ -1,4 +1,4 @@
-// One function for each section of the table, from arrays by preorder position.
-mod kinds;
-mod laying;
-mod spread;
+// The passes that lay the sections of the table, from arrays by preorder position. They are public for `prepare` alone, which meets what each requires.
+pub mod kinds;
+pub mod laying;
+pub mod spread;

@@ -7,7 +7,7 @@ ghost use Rattle.fill.specs.Arrays.{Indexes, Scattered, Placed};
 use base::Node;
 
 // The word of each position into the cell of the entry that stands there.
-pub(crate) fn scatter(order: &[u32], values: &[u32], cells: &mut [u32])
+pub fn scatter(order: &[u32], values: &[u32], cells: &mut [u32])
     requires { ⌜ (Indexes (now order) (now cells)) × (length (now values) ≡ length (now order)) ⌝ }
     ensures { λ _. ⌜ Scattered (now (order .entry)) (now (values .entry)) (now (cells .exit)) ⌝ }
 {
@@ -20,7 +20,7 @@ pub(crate) fn scatter(order: &[u32], values: &[u32], cells: &mut [u32])
 }
 
 // Each position into the cell of the entry that stands there.
-pub(crate) fn positions(order: &[u32], cells: &mut [u32])
+pub fn positions(order: &[u32], cells: &mut [u32])
     requires { ⌜ (Indexes (now order) (now cells)) × (length (now order) ≤ mostEntries) ⌝ }
     ensures { λ _. ⌜ Placed (now (order .entry)) (now (cells .exit)) ⌝ }
 {
@@ -33,7 +33,7 @@ pub(crate) fn positions(order: &[u32], cells: &mut [u32])
 }
 
 // One array into another of the same length.
-pub(crate) fn copy(from: &[u32], to: &mut [u32])
+pub fn copy(from: &[u32], to: &mut [u32])
     requires { ⌜ length (now from) ≡ length (now to) ⌝ }
     ensures { λ _. ⌜ now (to .exit) ≡ now (from .entry) ⌝ }
 {
@@ -45,7 +45,7 @@ pub(crate) fn copy(from: &[u32], to: &mut [u32])
 }
 
 // Zeros.
-pub(crate) fn zero(cells: &mut [u32])
+pub fn zero(cells: &mut [u32])
     ensures { λ _. ⌜ now (cells .exit) ≡ replicate (length (now (cells .entry))) 0 ⌝ }
 {
     let mut i: usize = 0;

@@ -4,3 +4,4 @@ pub mod Marking
 pub mod Pending
 pub mod Searches
 pub mod Verdicts
+pub mod Staging

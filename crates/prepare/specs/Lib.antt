@@ -1,3 +1,4 @@
 -- The regions of the working space, what they hold, and what is answered.
 pub mod Regions
+pub mod Stages
 pub mod Verdict

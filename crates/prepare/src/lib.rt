@@ -2,6 +2,8 @@
 mod faults;
 mod link;
 mod lost;
+mod parts;
+mod sections;
 mod stray;
 mod walk;
 mod words;

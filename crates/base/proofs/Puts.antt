@@ -1,0 +1,59 @@
+-- A part of a list replaced by other words: what stands there, before it and behind it. Assumes nothing.
+use mathlib.Core.Path.{_≡_, refl, sym, ap, _∙_}
+use mathlib.Core.List.{List, _++_, append-assoc}
+use Prim.Native.Nat.{ℕ, _+_, _-_, _≤_}
+use native.Mathlib.Omega.{arith}
+use borrow.Rule.Slice.PartMut.{midOf, putMid, post-is}
+use lib.ListN.{length, take, drop, length-append, length-take, length-drop, take-append-drop}
+use lib.Seq.{drop-append-le, drop-append-seam, drop-at, drop-drop, take-at, take-add, take-all}
+use Rattle.base.specs.Lists.{view, put}
+use Rattle.base.proofs.Views.{view-back, view-other}
+
+-- a part that was lent, as it is lent and as it comes back
+pub lent-view : (a b c : ℕ) (l : List ℕ) → a + c ≡ b → midOf a (b - a) l ≡ view a c l
+unfolding view
+lent-view a b c l e = let z : b - a ≡ c = omega arith in ap (λ k. take k (drop a l)) z
+
+pub lent-back : (a b : ℕ) (l y x : List ℕ) → y ≡ x → a + length x ≡ b → putMid a (b - a) l y ≡ put l a x
+unfolding put
+lent-back a b l y x q e = rw q (ap (λ r. take a l ++ (x ++ r)) (post-is a b l (omega arith) ∙ ap (λ k. drop k l) (sym e)))
+
+module _ (l : List ℕ) (a : ℕ) (x : List ℕ) (room : a + length x ≤ length l) where
+  pub put-length : length (put l a x) ≡ length l
+  unfolding put
+  put-length = simp (length-append, length-take, length-drop) (omega arith)
+
+  -- the words that were put, and those before and behind them
+  pub put-view : (c : ℕ) → length x ≡ c → view a c (put l a x) ≡ x
+  unfolding put
+  put-view c e = view-back a c l x (drop (a + length x) l) (omega arith) e
+
+  pub put-before : (b c : ℕ) → b + c ≤ a → view b c (put l a x) ≡ view b c l
+  unfolding put
+  put-before b c h = view-other a b c l (x ++ drop (a + length x) l) h (omega arith)
+
+  put-drop : drop (a + length x) (put l a x) ≡ drop (a + length x) l
+  unfolding put
+  put-drop = ap (drop (a + length x)) (sym (append-assoc (take a l) x (drop (a + length x) l))) ∙ drop-at (take a l ++ x) _ (a + length x) (simp (length-append, length-take) (omega arith))
+
+  pub put-behind : (b c : ℕ) → a + length x ≤ b → view b c (put l a x) ≡ view b c l
+  unfolding view
+  put-behind b c h =
+      let k = b - (a + length x) in
+      let z : b ≡ (a + length x) + k = omega arith in
+      let e : (m : List ℕ) → drop b m ≡ drop k (drop (a + length x) m) = λ m. ap (λ j. drop j m) z ∙ sym (drop-drop k (a + length x) m) in
+      ap (take c) (e (put l a x) ∙ ap (drop k) put-drop ∙ sym (e l))
+
+  -- other words in the same place
+  pub put-again : (y : List ℕ) → length y ≡ length x → put (put l a x) a y ≡ put l a y
+  unfolding put
+  put-again y e = rw (e) (ap (λ r. take a (put l a x) ++ (y ++ r)) put-drop ∙ ap (λ r. r ++ (y ++ drop (a + length x) l)) (take-at (take a l) (x ++ drop (a + length x) l) a (simp length-take (omega arith))))
+
+-- parts that lie side by side
+pub view-join : (a c d : ℕ) (l : List ℕ) → view a (c + d) l ≡ view a c l ++ view (a + c) d l
+unfolding view
+view-join a c d l = take-add c d (drop a l) ∙ ap (λ r. take c (drop a l) ++ take d r) (drop-drop c a l)
+
+pub view-all : (c : ℕ) (l : List ℕ) → length l ≡ c → view 0 c l ≡ l
+unfolding view
+view-all c l e = take-all c l (omega arith)
