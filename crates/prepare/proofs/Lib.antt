@@ -5,3 +5,4 @@ pub mod Pending
 pub mod Searches
 pub mod Verdicts
 pub mod Staging
+pub mod Assembly

@@ -19,8 +19,7 @@ scatter-requires c κs =
     let n = length (s .args .parents .now) in
     let xs = s .args .space .now in
     let w = s .pre .0 in
-    let front = mid-len 0 n xs (omega (arith, w .room)) in
-    (
+    let front = mid-len 0 n xs (omega (arith, w .room)) in (
       order-indexes (s .args .parents .now) (w .few) (w .tree) _ _ (lent-view 0 n n xs (omega arith) ∙ w .orders) (mid-len (s .args .a) (s .args .a + n) (s .args .table .now) (s .pre .2) ∙ omega arith),
       omega (arith, front, mid-len (s .args .region) (s .args .region + n) xs (omega (arith, w .room))),
     )
@@ -34,8 +33,8 @@ returns c f e =
     let xs = s .args .space .now in
     let w = s .pre .0 in
     lent-back (s .args .a) (s .args .a + n) (s .args .table .now) _ (below n f)
-        (c .before .before .scatter .ensures ps f (w .few) (w .tree) (lent-view 0 n n xs (omega arith) ∙ w .orders) (lent-view (s .args .region) (s .args .region + n) n xs refl ∙ e))
-        (omega (arith, each-length n 0 f))
+    (c .before .before .scatter .ensures ps f (w .few) (w .tree) (lent-view 0 n n xs (omega arith) ∙ w .orders) (lent-view (s .args .region) (s .args .region + n) n xs refl ∙ e))
+    (omega (arith, each-length n 0 f))
 
 pub by-entry-spec : {M : Type 1} → statement M
 by-entry-spec =

@@ -23,8 +23,8 @@ returns c =
     let ys = s .args .to .now in
     let n = s .args .count in
     lent-back (s .args .b) (s .args .b + n) ys _ (view (s .args .a) n xs)
-        (c .before .before .copy .ensures ∙ lent-view (s .args .a) (s .args .a + n) n xs refl)
-        (omega (arith, view-length (s .args .a) n xs (s .pre .0)))
+    (c .before .before .copy .ensures ∙ lent-view (s .args .a) (s .args .a + n) n xs refl)
+    (omega (arith, view-length (s .args .a) n xs (s .pre .0)))
 
 pub carry-spec : {M : Type 1} → statement M
 carry-spec =
