@@ -3,3 +3,4 @@ pub mod Spreading
 pub mod Laddering
 pub mod Kinding
 pub mod Rising
+pub mod Gathering

@@ -1,4 +1,5 @@
 // One function for each section of the table, from arrays by preorder position.
+mod grouping;
 mod kinds;
 mod laying;
 mod spread;
