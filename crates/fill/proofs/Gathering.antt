@@ -136,11 +136,11 @@ module _ (ps ord deep sizes above : List ℕ) (m : Members ps ord deep sizes abo
     at-v : position ps v ≡ i
     at-v = position-of ps little tree i (omega (arith, entries))
 
-    pub gather-at : at ≡ 3 * length (rootsWithin groupLimit ps i)
+    gather-at : at ≡ 3 * length (rootsWithin groupLimit ps i)
     unfolding groupWords
     gather-at = sym (g .size) ∙ rows-length (groupWords groupLimit ps) 3 (λ x. refl) (rootsWithin groupLimit ps i)
 
-    pub gather-room : at + 3 ≤ 3 * length ps
+    gather-room : at + 3 ≤ 3 * length ps
     gather-room = omega (arith, gather-at, keep-most (groupRoot groupLimit ps) (take i (order ps)), length-take i (order ps), entries)
 
     -- a position where no group has its root

@@ -4,3 +4,4 @@ pub mod Laddering
 pub mod Kinding
 pub mod Rising
 pub mod Gathering
+pub mod Leaping
