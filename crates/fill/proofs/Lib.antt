@@ -5,3 +5,4 @@ pub mod Kinding
 pub mod Rising
 pub mod Gathering
 pub mod Leaping
+pub mod Doubling
