@@ -3,3 +3,6 @@ pub mod Spreading
 pub mod Laddering
 pub mod Kinding
 pub mod Rising
+pub mod Gathering
+pub mod Leaping
+pub mod Doubling

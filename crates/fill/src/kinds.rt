@@ -9,7 +9,7 @@ ghost use Rattle.fill.specs.Arrays.{entryAt, Families, Kinded};
 use base::Position;
 
 // Whether the root of a group stands at a position.
-fn group_root(size: &[u32], above: &[u32], at: Position) -> bool
+pub(crate) fn group_root(size: &[u32], above: &[u32], at: Position) -> bool
     requires { ⌜ ((ps : List ℕ) × Families ps (now size) (now above)) × (at .0 < length (now size)) ⌝ }
     ensures { λ r. ⌜ ((ps : List ℕ) → Families ps (now (size .entry)) (now (above .entry)) → r ≡ groupRoot groupLimit ps (entryAt ps (at .0))) ⌝ }
 {

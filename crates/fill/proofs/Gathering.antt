@@ -1,0 +1,181 @@
+-- GROUPS: three words for each group, one position further. Assumes nothing.
+use mathlib.Core.Path.{_≡_, refl, sym, ap, _∙_}
+use mathlib.Core.List.{List, [], _∷_, _++_, map, map-append, flatMap, append-nil, append-assoc}
+use mathlib.Core.Bool.{Bool, true, false}
+use mathlib.Core.Option.{Option, none, some, Option·getD}
+use Prim.Native.Nat.{ℕ, zero, suc, _+_, _*_, _-_, _≤_, _<_}
+use native.Mathlib.Omega.{arith}
+use native.Mathlib.Numerals.{add-one}
+use lib.ListN.{length, getD, set, take, drop, replicate, length-take, length-replicate}
+use lib.Seq.{take-suc, take-all}
+use Rattle.base.specs.Limits.{mostEntries, groupLimit}
+use Rattle.base.specs.Lists.{keep, padded}
+use Rattle.base.proofs.Keeping.{keep-append, keep-yes, keep-no, keep-most}
+use Rattle.base.proofs.Rows.{rows-length}
+use Rattle.base.proofs.Views.{Laid, laid-none, laid-more}
+use Rattle.tree.specs.Parents.{topMark, parent, depth}
+use Rattle.tree.specs.Forest.{levels, under, size, family, order, position}
+use Rattle.tree.specs.Faults.{Tree}
+use Rattle.tree.proofs.OneTree.{tree-meets}
+use Rattle.tree.proofs.Levels.{under-levels}
+use Rattle.tree.proofs.Positions.{order-length, at-position, position-of, order-in}
+use Rattle.tree.proofs.Intervals.{parent-before, family-drop}
+use Rattle.table.specs.Groups.{groupRoot, groupWords}
+use Rattle.shapes.specs.Walks.{walkRound, shapeNumber}
+use Rattle.climbs.proofs.Groups.{rootsWithin, root-micro}
+use Rattle.climbs.proofs.Jumps.{micro-size}
+use Rattle.fill.specs.Arrays.{entryAt, abovePosition, Climbs, Members, Grouped}
+use Rattle.fill.proofs.Laddering.{Over, array-length, array-word, over-at}
+use Rattle.fill.proofs.Rising.{ord-length}
+
+-- a part of a list of values
+drop-map : (f : ℕ → ℕ) (i : ℕ) (l : List ℕ) → drop i (map f l) ≡ map f (drop i l)
+drop-map f zero l = refl
+drop-map f (suc i) [] = refl
+drop-map f (suc i) (x ∷ l) = drop-map f i l
+
+drop-zeros : (n m : ℕ) → drop {A = ℕ} n (replicate m 0) ≡ replicate (m - n) 0
+drop-zeros zero m = let e : m ≡ m - 0 = omega arith in ap (λ k. replicate {A = ℕ} k 0) e
+drop-zeros (suc n) zero = let e : 0 ≡ 0 - suc n = omega arith in ap (λ k. replicate {A = ℕ} k 0) e
+drop-zeros (suc n) (suc m) = let e : m - n ≡ suc m - suc n = omega arith in drop-zeros n m ∙ ap (λ k. replicate {A = ℕ} k 0) e
+
+-- one list more, laid behind the others
+rows-more : (f : ℕ → List ℕ) (l : List ℕ) (x : ℕ) → flatMap f (l ++ (x ∷ [])) ≡ flatMap f l ++ f x
+unfolding flatMap
+rows-more f [] x = append-nil (f x)
+rows-more f (y ∷ l) x = ap (λ m. f y ++ m) (rows-more f l x) ∙ sym (append-assoc (f y) (flatMap f l) (f x))
+
+-- what passes a test among the first entries, one entry further
+module _ (test : ℕ → Bool) (l : List ℕ) (i : ℕ) (h : i < length l) where
+  next-kept : keep test (take (i + 1) l) ≡ keep test (take i l) ++ keep test (getD l i 0 ∷ [])
+  next-kept = rw (add-one i, take-suc l i 0 h) (keep-append test (take i l) (getD l i 0 ∷ []))
+
+  pub keep-next : test (getD l i 0) ≡ true → keep test (take (i + 1) l) ≡ keep test (take i l) ++ (getD l i 0 ∷ [])
+  unfolding keep
+  keep-next e = next-kept ∙ ap (λ m. keep test (take i l) ++ m) (keep-yes test (getD l i 0) [] e)
+
+  pub keep-same : test (getD l i 0) ≡ false → keep test (take (i + 1) l) ≡ keep test (take i l)
+  unfolding keep
+  keep-same e = next-kept ∙ ap (λ m. keep test (take i l) ++ m) (keep-no test (getD l i 0) [] e) ∙ append-nil (keep test (take i l))
+
+-- the entry above the one at a position, or the top mark
+module _ (ps ord above : List ℕ) (c : Climbs ps ord above) where
+  small : length ps ≤ topMark
+  small = let few = c .few in omega (arith, few)
+
+  many : length ord ≡ length ps
+  many = ord-length ps ord above c
+
+  pub word-first : 0 < length ord → topMark ≡ Option·getD (parent ps (entryAt ps 0)) topMark
+  word-first h = go (parent ps (entryAt ps 0)) refl
+    where
+      go : (o : Option ℕ) → parent ps (entryAt ps 0) ≡ o → topMark ≡ Option·getD o topMark
+      go none e = refl
+      go (some p) e = absurd (omega (arith, parent-before ps small (c .tree) (entryAt ps 0) p e, position-of ps small (c .tree) 0 (omega (arith, many))))
+
+  module _ (i : ℕ) (b : 0 < i) (h : i < length ord) where
+    upper : Over ps (entryAt ps i)
+    upper = over-at ps (c .few) (c .tree) i b (omega (arith, many))
+
+    upper-word : getD above i 0 ≡ position ps (upper .over)
+    upper-word = array-word ps (c .few) (c .tree) (abovePosition ps) above (c .aboves) i (omega (arith, many)) ∙ upper .word
+
+    pub upper-less : getD above i 0 < i
+    upper-less = omega (arith, upper-word, upper .earlier, position-of ps small (c .tree) i (omega (arith, many)))
+
+    pub word-next : getD ord (getD above i 0) 0 ≡ Option·getD (parent ps (entryAt ps i)) topMark
+    word-next = rw (upper .parent-is) (ap (λ l. getD l (getD above i 0) 0) (c .order-is) ∙ ap (entryAt ps) upper-word ∙ at-position ps small (c .tree) (upper .over) (upper .inside))
+
+-- the words of the groups among the first i positions, zeros behind, and where the next stand
+abbrev pub Gathered : List ℕ → ℕ → ℕ → List ℕ → Type 0
+Gathered ps i at cells = Laid (replicate (3 * length ps) 0) (flatMap (groupWords groupLimit ps) (rootsWithin groupLimit ps i)) cells at
+
+module _ (ps ord deep sizes above : List ℕ) (m : Members ps ord deep sizes above) where
+  few : length ps ≤ mostEntries
+  few = m .families .few
+
+  tree : Tree ps
+  tree = m .families .tree
+
+  little : length ps ≤ topMark
+  little = omega (arith, few)
+
+  pub climbs-from : Climbs ps ord above
+  climbs-from = record { few = few; tree = tree; order-is = m .order-is; aboves = m .families .aboves }
+
+  pub entries : length ord ≡ length ps
+  entries = ord-length ps ord above climbs-from
+
+  pub sizes-many : length sizes ≡ length ord
+  sizes-many = array-length ps few tree (size ps) sizes (m .families .sizes-are) ∙ sym entries
+
+  pub gather-none : (n : ℕ) (cells : List ℕ) → n ≡ 3 * length ord → cells ≡ replicate n 0 → Gathered ps 0 0 cells
+  unfolding keep flatMap
+  gather-none n cells e q =
+      let z : n ≡ 3 * length ps = omega (arith, entries) in
+      rw (q, z) (laid-none (replicate (3 * length ps) 0))
+
+  pub gather-end : (i at : ℕ) (cells : List ℕ) → length ord ≤ i → Gathered ps i at cells → Grouped ps cells
+  unfolding Grouped padded
+  gather-end i at cells h g =
+      let whole : take i (order ps) ≡ order ps = take-all i (order ps) (omega (arith, entries, order-length ps little tree)) in
+      let words = flatMap (groupWords groupLimit ps) (rootsWithin groupLimit ps i) in
+      let q : drop {A = ℕ} at (replicate (3 * length ps) 0) ≡ replicate (3 * length ps - length words) 0 = drop-zeros at (3 * length ps) ∙ ap (λ k. replicate (3 * length ps - k) 0) (sym (g .size)) in
+      rw whole at (g .is ∙ ap (λ l. words ++ l) q)
+
+  module _ (i at : ℕ) (cells : List ℕ) (h : i < length ord) (g : Gathered ps i at cells) where
+    abbrev v : ℕ
+    v = entryAt ps i
+
+    inner : i < length (order ps)
+    inner = omega (arith, entries, order-length ps little tree)
+
+    hv : v < length ps
+    hv = order-in ps little tree i (omega (arith, entries))
+
+    at-v : position ps v ≡ i
+    at-v = position-of ps little tree i (omega (arith, entries))
+
+    gather-at : at ≡ 3 * length (rootsWithin groupLimit ps i)
+    unfolding groupWords
+    gather-at = sym (g .size) ∙ rows-length (groupWords groupLimit ps) 3 (λ x. refl) (rootsWithin groupLimit ps i)
+
+    gather-room : at + 3 ≤ 3 * length ps
+    gather-room = omega (arith, gather-at, keep-most (groupRoot groupLimit ps) (take i (order ps)), length-take i (order ps), entries)
+
+    -- a position where no group has its root
+    pub gather-same : groupRoot groupLimit ps v ≡ false → Gathered ps (i + 1) at cells
+    gather-same e = rw (keep-same (groupRoot groupLimit ps) (order ps) i inner e) g
+
+    -- a group's own words, behind the others
+    pub gather-more : groupRoot groupLimit ps v ≡ true → (shape over : ℕ) → shape ≡ shapeNumber groupLimit (walkRound (under ps v)) → over ≡ Option·getD (parent ps v) topMark
+        → Gathered ps (i + 1) (at + 3) (set (set (set cells at i) (at + 1) shape) (at + 2) over)
+    unfolding groupWords
+    gather-more e shape over s o =
+        let old : List ℕ = replicate (3 * length ps) 0 in
+        let n : length old ≡ 3 * length ps = length-replicate {A = ℕ} (3 * length ps) 0 in
+        let l = laid-more over (omega (arith, gather-room)) (laid-more shape (omega (arith, gather-room)) (laid-more i (omega (arith, gather-room)) g)) in
+        let words = flatMap (groupWords groupLimit ps) (rootsWithin groupLimit ps i) in
+        let q : flatMap (groupWords groupLimit ps) (rootsWithin groupLimit ps (i + 1)) ≡ ((words ++ i ∷ []) ++ shape ∷ []) ++ over ∷ [] =
+        ap (flatMap (groupWords groupLimit ps)) (keep-next (groupRoot groupLimit ps) (order ps) i inner e)
+        ∙ rows-more (groupWords groupLimit ps) (rootsWithin groupLimit ps i) v
+        ∙ rw (at-v, ← s, ← o) (simp append-assoc) in
+        let z : (at + 1) + 1 ≡ at + 2 = omega arith in
+        let y : (at + 2) + 1 ≡ at + 3 = omega arith in
+        rw (q, ← y) (rw z at l)
+
+    -- the depths from there on are those of the group, and of what stands behind it
+    pub group-depths : drop i deep ≡ depth ps v ∷ (levels (suc (depth ps v)) (under ps v) ++ map (depth ps) (drop (position ps v + size ps v) (order ps)))
+    group-depths =
+        ap (drop i) (m .depths)
+        ∙ drop-map (depth ps) i (order ps)
+        ∙ ap (λ j. map (depth ps) (drop j (order ps))) (sym at-v)
+        ∙ ap (map (depth ps)) (family-drop ps little tree v hv)
+        ∙ map-append (depth ps) (family ps v) (drop (position ps v + size ps v) (order ps))
+        ∙ ap (λ l. depth ps v ∷ (l ++ map (depth ps) (drop (position ps v + size ps v) (order ps)))) (under-levels ps little v (tree-meets ps little tree v hv))
+
+    pub group-size : getD sizes i 0 ≡ size ps v
+    group-size = array-word ps few tree (size ps) sizes (m .families .sizes-are) i (omega (arith, entries))
+
+    pub group-small : groupRoot groupLimit ps v ≡ true → getD sizes i 0 ≤ groupLimit
+    group-small e = omega (arith, group-size, micro-size groupLimit ps v (root-micro groupLimit ps v e))

@@ -1,0 +1,140 @@
+-- `grouping::groups` meets its contract: the words of the groups among the first i positions are laid end to end, with zeros behind. Assumes nothing.
+use mathlib.Core.Path.{_≡_, sym, ap, _∙_}
+use mathlib.Core.List.{List}
+use Prim.Native.Nat.{ℕ, _+_, _*_, _-_, _≤_}
+use native.Mathlib.Omega.{arith}
+use borrow.Author.Needs.{needs}
+use lib.ListN.{length, set, length-set, length-replicate}
+use Rattle.fill.specs.Arrays.{Members}
+use Rattle.fill.proofs.Gathering.{Gathered, climbs-from, entries, sizes-many, gather-none, gather-end, gather-same, gather-more, group-depths, group-size, group-small}
+use Rattle.fill.proofs.grouping.groups.Statement.{statement}
+use Rattle.fill.proofs.grouping.groups.Tie as tie
+
+-- the numbers of a turn
+record Turn (order size cells : List ℕ) (at i : ℕ) : Type 0 where
+  pub few : length order ≤ 1048576
+  pub sizes : length size ≡ length order
+  pub room : length cells ≡ 3 * length order
+  pub used : at ≤ 3 * i
+
+abbrev Inv-loop : tie.InvT-loop
+Inv-loop order depth size above cells₀ at₀ i₀ cells at i =
+    (i ≤ length order)
+    × Turn order size cells at i
+    × ((ps : List ℕ) → Members ps order depth size above → Gathered ps i at cells)
+
+abbrev μ-loop : tie.MeasureT-loop
+μ-loop order depth size above cells₀ at₀ i₀ cells at i = length order - i
+
+loop-holds : tie.Need-loop-holds Inv-loop μ-loop
+loop-holds c =
+    let s = c .before .before .before .before .before .before .before .before .before in
+    let wiped = c .before .before .zero .ensures in
+    let (ps, m) = s .pre .0 in (
+      omega arith,
+      record {
+        few = let few = m .families .few in omega (arith, few, entries ps (s .args .order .now) (s .args .depth .now) (s .args .size .now) (s .args .above .now) m);
+        sizes = sizes-many ps (s .args .order .now) (s .args .depth .now) (s .args .size .now) (s .args .above .now) m;
+        room = ap length wiped ∙ length-replicate {A = ℕ} (length (s .args .cells .now)) 0 ∙ s .pre .1;
+        used = omega arith;
+      },
+      λ ps m. gather-none ps (s .args .order .now) (s .args .depth .now) (s .args .size .now) (s .args .above .now) m (length (s .args .cells .now)) _ (s .pre .1) wiped,
+    )
+
+group-root-requires : tie.Need-group-root-requires Inv-loop μ-loop
+group-root-requires c κs =
+    let s = c .before .before .before .before .before .before .before .before .before .before .before in
+    let (ps, m) = s .pre .0 in
+    ((ps, m .families), omega arith)
+
+cast-number : tie.Need-cast-number Inv-loop μ-loop
+cast-number c = omega (arith, c .shared-slice-known5 .given (c .before .before .before .before .loop .i))
+
+slice-write-cells-2 : tie.Need-slice-write-cells-2 Inv-loop μ-loop
+slice-write-cells-2 c =
+    let l = c .before .before .before .before .before .loop in
+    omega (arith, length-set (l .cells) (l .at) (l .i))
+
+slice-write-cells-3 : tie.Need-slice-write-cells-3 Inv-loop μ-loop
+slice-write-cells-3 c =
+    let l = c .before .before .before .before .before .before .loop in
+    omega (arith, length-set (set (l .cells) (l .at) (l .i)) (l .at + 1) (c .before .number .result), length-set (l .cells) (l .at) (l .i))
+
+parent-word-requires : tie.Need-parent-word-requires Inv-loop μ-loop
+parent-word-requires c κs =
+    let s = c .before .before .before .before .before .before .before .before .before .before .before .before .before .before .before in
+    let (ps, m) = s .pre .0 in
+    ((ps, climbs-from ps (s .args .order .now) (s .args .depth .now) (s .args .size .now) (s .args .above .now) m), omega arith)
+
+loop-again : tie.Need-loop-again Inv-loop μ-loop
+loop-again c =
+    let turn = c .before .before .before .before in
+    let l = turn .before .before .loop in
+    let s = turn .before .before .before .before .before .before .before .before .before .before .before .before in (
+      omega arith,
+      record {
+        few = l .inv .1 .few;
+        sizes = l .inv .1 .sizes;
+        room = length-set (set (set (l .cells) (l .at) (l .i)) (l .at + 1) (c .before .number .result)) (l .at + 2) (c .parent-word .result) ∙ length-set (set (l .cells) (l .at) (l .i)) (l .at + 1) (c .before .number .result) ∙ length-set (l .cells) (l .at) (l .i) ∙ l .inv .1 .room;
+        used = omega arith;
+      },
+      λ ps m.
+          let e = sym (turn .group-root .ensures ps (m .families)) ∙ c .before .before .before .if1 .taken in
+          let k = group-size ps (s .args .order .now) (s .args .depth .now) (s .args .size .now) (s .args .above .now) m (l .i) (l .at) (l .cells) (omega arith) (l .inv .2 ps m) in
+          let q = group-depths ps (s .args .order .now) (s .args .depth .now) (s .args .size .now) (s .args .above .now) m (l .i) (l .at) (l .cells) (omega arith) (l .inv .2 ps m) in
+          let b = group-small ps (s .args .order .now) (s .args .depth .now) (s .args .size .now) (s .args .above .now) m (l .i) (l .at) (l .cells) (omega arith) (l .inv .2 ps m) e in
+          gather-more ps (s .args .order .now) (s .args .depth .now) (s .args .size .now) (s .args .above .now) m (l .i) (l .at) (l .cells) (omega arith) (l .inv .2 ps m) e (c .before .number .result) (c .parent-word .result) (c .before .number .ensures .0 _ _ _ q k b) (c .parent-word .ensures ps (climbs-from ps (s .args .order .now) (s .args .depth .now) (s .args .size .now) (s .args .above .now) m)),
+    )
+
+loop-again-2 : tie.Need-loop-again-2 Inv-loop μ-loop
+loop-again-2 c =
+    let l = c .before .before .before .loop in
+    let s = c .before .before .before .before .before .before .before .before .before .before .before .before .before in (
+      omega arith,
+      record { few = l .inv .1 .few; sizes = l .inv .1 .sizes; room = l .inv .1 .room; used = omega arith },
+      λ ps m. gather-same ps (s .args .order .now) (s .args .depth .now) (s .args .size .now) (s .args .above .now) m (l .i) (l .at) (l .cells) (omega arith) (l .inv .2 ps m) (sym (c .before .group-root .ensures ps (m .families)) ∙ c .if1 .left),
+    )
+
+same-length : tie.Need-same-length Inv-loop μ-loop
+same-length c =
+    let l = c .before .loop in
+    let s = c .before .before .before .before .before .before .before .before .before .before .before in
+    l .inv .1 .room ∙ sym (s .pre .1)
+
+returns : tie.Need-returns Inv-loop μ-loop
+returns c ps m =
+    let l = c .before .loop in
+    let s = c .before .before .before .before .before .before .before .before .before .before .before in
+    gather-end ps (s .args .order .now) (s .args .depth .now) (s .args .size .now) (s .args .above .now) m (l .i) (l .at) (l .cells) (omega arith) (l .inv .2 ps m)
+
+pub groups-spec : {M : Type 1} → statement M
+groups-spec =
+    tie.close
+    (tie.spec
+    Inv-loop
+    μ-loop
+    (λ c κs. search needs)
+    loop-holds
+    (λ c. search needs)
+    (λ c. search needs)
+    group-root-requires
+    (λ c. search needs)
+    (λ c. search needs)
+    (λ c. search needs)
+    (λ c. search needs)
+    cast-number
+    (λ c κs. search needs)
+    (λ c. search needs)
+    (λ c. search needs)
+    slice-write-cells-2
+    parent-word-requires
+    (λ c. search needs)
+    (λ c. search needs)
+    slice-write-cells-3
+    (λ c. search needs)
+    (λ c. search needs)
+    loop-again
+    (λ c. search needs)
+    loop-again-2
+    same-length
+    returns)
