@@ -3,3 +3,5 @@ pub mod Spreading
 pub mod Laddering
 pub mod Kinding
 pub mod Rising
+pub mod Sizing
+pub mod Towering
