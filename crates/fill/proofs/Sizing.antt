@@ -135,8 +135,7 @@ module _ (ps deep : List ℕ) (d : Depths ps deep) where
               absurd (omega (arith, deep-word at h, deep-word over (omega arith), depth-parent ps (omega arith) (d .tree) (entryAt ps at) (r .upper) (r .parent-is), ap (depth ps) e))
           go (inr (p, e, a)) =
               let w = above-parent ps (d .few) (d .tree) (entryAt ps over) p e in
-              let q : entryAt ps (position ps p) ≡ p = at-position ps (omega arith) (d .tree) p (parent-some ps (entryAt ps over) p e .1) in
-              (
+              let q : entryAt ps (position ps p) ≡ p = at-position ps (omega arith) (d .tree) p (parent-some ps (entryAt ps over) p e .1) in (
                 omega (arith, w, parent-before ps (omega arith) (d .tree) (entryAt ps over) p e, entry-position over (omega arith)),
                 rw w (record { upper = r .upper; parent-is = r .parent-is; ancestor = rw q a }),
               )

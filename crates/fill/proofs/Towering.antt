@@ -1,24 +1,31 @@
 -- HEIGHT and LONG by position, from SIZE. Assumes nothing.
 use mathlib.Core.Path.{_≡_, refl, sym, ap, _∙_}
-use mathlib.Core.List.{List, [], _∷_, _++_, append-assoc, append-nil}
-use mathlib.Core.Bool.{true, false, cond}
+use mathlib.Core.List.{List, [], _∷_, _++_, map, append-assoc, append-nil}
+use mathlib.Core.Bool.{cond}
 use mathlib.Core.Option.{Option, none, some, Option·elim}
-use Prim.Native.Nat.{ℕ, suc, _+_, _≤_, _<_, max}
+use Prim.Native.Nat.{ℕ, suc, _+_, _*_, _≤_, _<_, max}
 use native.Mathlib.Omega.{arith}
-use native.Mathlib.Decide.{decLe}
-use lib.ListN.{length, getD}
+use native.Mathlib.Decide.{ℕ-discrete, decLe}
+use lib.ListN.{length, getD, set, length-set, length-map}
+use lib.Seq.{getD-set-same, getD-set-other, ext-getD}
 use lib.Dec.{leb}
 use borrow.Author.Tests.{le-leb, lt-leb}
+use Rattle.base.specs.Lists.{view}
+use Rattle.base.proofs.Views.{view-length, view-at}
 use Rattle.base.proofs.Counts.{times, times-append}
 use Rattle.base.proofs.Places.{times-same}
-use Rattle.tree.specs.Parents.{topMark, parent, children}
-use Rattle.tree.specs.Forest.{Forest, plant, forestSize, forestHeight, tallest, under, size, height, order, position, longChild}
+use Rattle.tree.specs.Parents.{topMark, children}
+use Rattle.tree.specs.Forest.{Forest, empty, node, plant, forestSize, forestHeight, tallest, under, size, height, order, position, longChild}
+use Rattle.tree.proofs.Climbing.{parent-some}
 use Rattle.tree.proofs.OneTree.{tree-meets}
 use Rattle.tree.proofs.Forests.{under-eq, child-of}
-use Rattle.tree.proofs.Positions.{at-position, position-in, position-of, order-in}
-use Rattle.tree.proofs.Intervals.{family-room, child-at}
-use Rattle.fill.specs.Arrays.{entryAt, longPosition, Sizes}
+use Rattle.tree.proofs.Positions.{order-length, at-position, position-in, position-of, order-in}
+use Rattle.tree.proofs.Intervals.{family-room, parent-before, child-at}
+use Rattle.climbs.proofs.Paths.{long-child, path-leaf}
+use Rattle.fill.specs.Arrays.{entryAt, longPosition, Sizes, Tall}
+use Rattle.fill.proofs.Spreading.{array-at}
 use Rattle.fill.proofs.Laddering.{array-length, array-word}
+use Rattle.fill.proofs.Sizing.{Back, back-more}
 
 -- the entries of two first levels joined
 size-join : (f : ℕ → Forest) (vs ws : List ℕ) → forestSize (plant f (vs ++ ws)) ≡ forestSize (plant f vs) + forestSize (plant f ws)
@@ -181,3 +188,93 @@ module _ (ps sizes : List ℕ) (s : Sizes ps sizes) where
                 most-is = omega (arith, tall-is, w .most-is, height-end (under ps) c (w .done));
                 best-is = rw (tallest-same (under ps) c (w .done) (omega (arith, tall-is, w .most-is))) (w .best-is);
               }
+
+-- HEIGHT and LONG from place i on
+pub record Towered (ps : List ℕ) (n i : ℕ) (cells : List ℕ) : Type 0 where
+  pub highs : Back (λ k. height ps (entryAt ps k)) n i cells
+  pub longs : (k : ℕ) → i ≤ k → k < n → getD cells (n + k) 0 ≡ longPosition ps (entryAt ps k)
+
+-- one place further down
+module _ (ps cells : List ℕ) (n i at x y : ℕ) (room : length cells ≡ 2 * n) (b : i ≤ at + 1) (h : at < n) (long : x ≡ longPosition ps (entryAt ps at)) (high : y ≡ height ps (entryAt ps at)) (t : Towered ps n i cells) where
+  tower-high : Back (λ k. height ps (entryAt ps k)) n i (set cells (n + at) x)
+  tower-high k l m = getD-set-other cells (n + at) k x 0 (λ q. omega arith) ∙ t .highs k l m
+
+  tower-long : (k : ℕ) → at ≤ k → k < n → getD (set cells (n + at) x) (n + k) 0 ≡ longPosition ps (entryAt ps k)
+  tower-long k l m = go (ℕ-discrete k at)
+    where
+      go : Dec (k ≡ at) → getD (set cells (n + at) x) (n + k) 0 ≡ longPosition ps (entryAt ps k)
+      go (yes q) = rw q (getD-set-same cells (n + at) x 0 (omega arith) ∙ long)
+      go (no q) = getD-set-other cells (n + at) (n + k) x 0 (λ z. q (omega arith)) ∙ t .longs k (omega arith) m
+
+  pub tower-more : Towered ps n at (set (set cells (n + at) x) at y)
+  tower-more =
+      record {
+        highs = back-more _ n i at y (set cells (n + at) x) b (omega (arith, length-set cells (n + at) x)) high tower-high;
+        longs = λ k l m. getD-set-other (set cells (n + at) x) at (n + k) y 0 (λ q. omega arith) ∙ tower-long k l m;
+      }
+
+-- a forest has no more levels than entries
+height-most : (f : Forest) → forestHeight f ≤ forestSize f
+unfolding forestHeight forestSize
+height-most empty = omega arith
+height-most (node v b later) = omega (arith, height-most b, height-most later)
+
+module _ (ps sizes : List ℕ) (s : Sizes ps sizes) where
+  -- an array by position as a part of a slice
+  view-map : (a : ℕ) (f : ℕ → ℕ) (cells : List ℕ) → a + length ps ≤ length cells → ((k : ℕ) → k < length ps → getD cells (a + k) 0 ≡ f (entryAt ps k)) → view a (length ps) cells ≡ map f (order ps)
+  view-map a f cells b e =
+      let n = view-length a (length ps) cells b in
+      let m : length (map f (order ps)) ≡ length ps = length-map (order ps) f ∙ order-length ps (omega arith) (s .tree) in
+      ext-getD 0 (view a (length ps) cells) (map f (order ps)) (omega arith) (λ k l.
+      sym (view-at a (length ps) cells k (a + k) (omega arith) refl) ∙ e k (omega arith) ∙ sym (array-at ps (s .few) (s .tree) f k (omega arith)))
+
+  pub tower-end : (cells : List ℕ) → length cells ≡ 2 * length sizes → Towered ps (length sizes) 0 cells → Tall ps cells
+  tower-end cells room t =
+      let n = spans-length ps sizes s in
+      record {
+        heights = view-map 0 (height ps) cells (omega arith) (λ k b. let z : 0 + k ≡ k = omega arith in ap (λ j. getD cells j 0) z ∙ t .highs k (omega arith) (omega arith));
+        longs = view-map (length ps) (longPosition ps) cells (omega arith) (λ k b. ap (λ m. getD cells (m + k) 0) (sym n) ∙ t .longs k (omega arith) (omega arith));
+      }
+
+  module _ (at : ℕ) (h : at < length sizes) where
+    inner : entryAt ps at < length ps
+    inner = order-in ps (omega arith) (s .tree) at (omega (arith, spans-length ps sizes s))
+
+    -- a height fits
+    pub high-small : height ps (entryAt ps at) ≤ 1048576
+    high-small = omega (arith, height-most (under ps (entryAt ps at)), family-room ps (omega arith) (s .tree) (entryAt ps at) inner)
+
+    -- a leaf's height is 1, and any other's is one more than that of the child to which its long path continues
+    pub high-leaf : longPosition ps (entryAt ps at) ≡ 4294967295 → 1 ≡ height ps (entryAt ps at)
+    unfolding longPosition Option·elim
+    high-leaf e = go (longChild ps (entryAt ps at)) refl e
+      where
+        go : (o : Option ℕ) → longChild ps (entryAt ps at) ≡ o → Option·elim o 4294967295 (position ps) ≡ 4294967295 → 1 ≡ height ps (entryAt ps at)
+        go none q z = sym (path-leaf ps (omega arith) (s .tree) (entryAt ps at) q inner .0)
+        go (some c) q z =
+            let (e, g) = long-child ps (omega arith) (s .tree) (entryAt ps at) c q inner in
+            absurd (omega (arith, position-in ps (omega arith) (s .tree) c (parent-some ps c (entryAt ps at) e .0)))
+
+    module _ (x : ℕ) (long : x ≡ longPosition ps (entryAt ps at)) (other : x ≡ 4294967295 → ⊥) where
+      high-over : (at < x) × (x < length sizes) × (height ps (entryAt ps at) ≡ height ps (entryAt ps x) + 1)
+      unfolding longPosition Option·elim
+      high-over = go (longChild ps (entryAt ps at)) refl long
+        where
+          go : (o : Option ℕ) → longChild ps (entryAt ps at) ≡ o → x ≡ Option·elim o 4294967295 (position ps) → (at < x) × (x < length sizes) × (height ps (entryAt ps at) ≡ height ps (entryAt ps x) + 1)
+          go none q z = absurd (other z)
+          go (some c) q z =
+              let (e, g) = long-child ps (omega arith) (s .tree) (entryAt ps at) c q inner in
+              let k : c < length ps = parent-some ps c (entryAt ps at) e .0 in
+              let y : entryAt ps x ≡ c = ap (entryAt ps) z ∙ at-position ps (omega arith) (s .tree) c k in (
+                omega (arith, parent-before ps (omega arith) (s .tree) c (entryAt ps at) e, position-of ps (omega arith) (s .tree) at (omega (arith, spans-length ps sizes s))),
+                omega (arith, position-in ps (omega arith) (s .tree) c k, spans-length ps sizes s),
+                omega (arith, g, ap (height ps) y),
+              )
+
+      pub long-inside : x < length sizes
+      long-inside = high-over .1
+
+      pub high-next : (i : ℕ) (cells : List ℕ) → i ≤ at + 1 → Towered ps (length sizes) i cells → getD (set cells (length sizes + at) x) x 0 + 1 ≡ height ps (entryAt ps at)
+      high-next i cells b t =
+          let r = high-over in
+          omega (arith, r .2, getD-set-other cells (length sizes + at) x x 0 (λ q. omega (arith, r .1)), t .highs x (omega (arith, r .0)) (r .1))
