@@ -23,7 +23,7 @@ fn parent_word(order: &[u32], above: &[u32], at: Position) -> u32
 }
 
 // GROUPS: each group's position, shape and parent, in preorder, and zeros behind.
-pub(crate) fn groups(order: &[u32], depth: &[u32], size: &[u32], above: &[u32], cells: &mut [u32])
+pub fn groups(order: &[u32], depth: &[u32], size: &[u32], above: &[u32], cells: &mut [u32])
     requires { ⌜ ((ps : List ℕ) × Members ps (now order) (now depth) (now size) (now above)) × (length (now cells) ≡ 3 * length (now order)) ⌝ }
     ensures { λ _. ⌜ ((ps : List ℕ) → Members ps (now (order .entry)) (now (depth .entry)) (now (size .entry)) (now (above .entry)) → Grouped ps (now (cells .exit))) ⌝ }
 {

@@ -9,7 +9,7 @@ ghost use Rattle.fill.specs.Arrays.{Jumping, Listed, Reaching};
 use base::Node;
 
 // The jump entries, in preorder: of the entries of size over 5 that lead to one jump entry, that entry stands last.
-pub(crate) fn jump_nodes(order: &[u32], kind: &[u32], cells: &mut [u32])
+pub fn jump_nodes(order: &[u32], kind: &[u32], cells: &mut [u32])
     requires { ⌜ ((ps : List ℕ) × Jumping ps (now order) (now kind)) × (length (now cells) ≡ length (now order)) ⌝ }
     ensures { λ _. ⌜ ((ps : List ℕ) → Jumping ps (now (order .entry)) (now (kind .entry)) → Listed ps (now (cells .exit))) ⌝ }
 {
@@ -25,7 +25,7 @@ pub(crate) fn jump_nodes(order: &[u32], kind: &[u32], cells: &mut [u32])
 }
 
 // A jump entry's record, from LADPOS and LADDERS: each ancestor by one ladder from the one before.
-pub(crate) fn record(places: &[u32], rungs: &[u32], deep: u32, v: Node) -> [u32; 21]
+pub fn record(places: &[u32], rungs: &[u32], deep: u32, v: Node) -> [u32; 21]
     requires { ⌜ ((ps : List ℕ) × Reaching ps (now places) (now rungs) × (v .0 < length ps) × (deep ≡ depth ps (v .0))) ⌝ }
     ensures { λ r. ⌜ ((ps : List ℕ) → Reaching ps (now (places .entry)) (now (rungs .entry)) → v .0 < length ps → deep ≡ depth ps (v .0) → r ≡ jumpRecord ps (v .0)) ⌝ }
 {
