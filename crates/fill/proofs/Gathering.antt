@@ -6,11 +6,11 @@ use mathlib.Core.Option.{Option, none, some, Option·getD}
 use Prim.Native.Nat.{ℕ, zero, suc, _+_, _*_, _-_, _≤_, _<_}
 use native.Mathlib.Omega.{arith}
 use native.Mathlib.Numerals.{add-one}
-use lib.ListN.{length, getD, set, take, drop, replicate, length-take, length-replicate}
+use lib.ListN.{length, getD, set, take, drop, replicate, length-replicate}
 use lib.Seq.{take-suc, take-all}
 use Rattle.base.specs.Limits.{mostEntries, groupLimit}
 use Rattle.base.specs.Lists.{keep, padded}
-use Rattle.base.proofs.Keeping.{keep-append, keep-yes, keep-no, keep-most}
+use Rattle.base.proofs.Keeping.{keep-append, keep-yes, keep-no}
 use Rattle.base.proofs.Rows.{rows-length}
 use Rattle.base.proofs.Views.{Laid, laid-none, laid-more}
 use Rattle.tree.specs.Parents.{topMark, parent, depth}
@@ -26,6 +26,7 @@ use Rattle.climbs.proofs.Groups.{rootsWithin, root-micro}
 use Rattle.climbs.proofs.Jumps.{micro-size}
 use Rattle.fill.specs.Arrays.{entryAt, abovePosition, Climbs, Members, Grouped}
 use Rattle.fill.proofs.Laddering.{Over, array-length, array-word, over-at}
+use Rattle.fill.proofs.Kinding.{count-small}
 use Rattle.fill.proofs.Rising.{ord-length}
 
 -- a part of a list of values
@@ -141,7 +142,7 @@ module _ (ps ord deep sizes above : List ℕ) (m : Members ps ord deep sizes abo
     gather-at = sym (g .size) ∙ rows-length (groupWords groupLimit ps) 3 (λ x. refl) (rootsWithin groupLimit ps i)
 
     gather-room : at + 3 ≤ 3 * length ps
-    gather-room = omega (arith, gather-at, keep-most (groupRoot groupLimit ps) (take i (order ps)), length-take i (order ps), entries)
+    gather-room = omega (arith, gather-at, count-small (groupRoot groupLimit ps) (order ps) i, entries)
 
     -- a position where no group has its root
     pub gather-same : groupRoot groupLimit ps v ≡ false → Gathered ps (i + 1) at cells

@@ -48,7 +48,7 @@ count-more test l i h =
     ∙ length-append (keep test (take i l)) (keep test (getD l i 0 ∷ []))
     ∙ ap (λ m. length (keep test (take i l)) + m) (keep-one test (getD l i 0))
 
-count-small : (test : ℕ → Bool) (l : List ℕ) (i : ℕ) → length (keep test (take i l)) ≤ i
+pub count-small : (test : ℕ → Bool) (l : List ℕ) (i : ℕ) → length (keep test (take i l)) ≤ i
 count-small test l i = omega (arith, keep-most test (take i l), length-take i l)
 
 -- the jump entries among the first i of the preorder

@@ -4,19 +4,18 @@ use mathlib.Core.List.{List, [], _∷_, _++_}
 use mathlib.Core.Bool.{Bool, true, false}
 use Prim.Native.Nat.{ℕ, suc, _+_, _-_, _≤_, _<_}
 use native.Mathlib.Omega.{arith}
-use lib.ListN.{length, getD, set, take, length-append, length-take}
+use lib.ListN.{length, getD, set, take, length-append}
 use lib.Seq.{take-suc-set, take-set-le, take-all}
 use Rattle.base.specs.Limits.{groupLimit, microMark}
 use Rattle.base.specs.Lists.{keep}
 use Rattle.base.proofs.Lists.{below-at, each-length}
-use Rattle.base.proofs.Keeping.{keep-most}
 use Rattle.tree.specs.Parents.{topMark}
 use Rattle.tree.specs.Forest.{order, position}
 use Rattle.tree.proofs.Positions.{order-length, position-of, order-in}
 use Rattle.table.specs.Groups.{micro, jumpNode, microKind, kind}
 use Rattle.climbs.proofs.Jumps.{jump-not, macro-kind}
 use Rattle.fill.specs.Arrays.{entryAt, Jumping, Listed}
-use Rattle.fill.proofs.Kinding.{jumpsWithin}
+use Rattle.fill.proofs.Kinding.{count-small, jumpsWithin}
 use Rattle.fill.proofs.Gathering.{keep-next, keep-same}
 
 -- the jump entries among the first i positions
@@ -63,7 +62,7 @@ module _ (ps ord kinds : List ℕ) (j : Jumping ps ord kinds) where
     inner = omega (arith, ord-many, order-length ps small (j .tree))
 
     few-before : length (jumpsWithin groupLimit ps i) ≤ i
-    few-before = omega (arith, keep-most (jumpNode groupLimit ps) (take i (order ps)), length-take i (order ps))
+    few-before = count-small (jumpNode groupLimit ps) (order ps) i
 
     module _ (k : ℕ) (e : k ≡ getD kinds (getD ord i 0) 0) where
       kind-is : k ≡ kind groupLimit ps v
@@ -74,23 +73,26 @@ module _ (ps ord kinds : List ℕ) (j : Jumping ps ord kinds) where
           ∙ ap (kind groupLimit ps) entry-is
 
       -- KIND tells micro entries from macro ones, and counts the jump entries before a macro one
-      micro-marked : (b : Bool) → micro groupLimit ps v ≡ b → microMark ≤ k → b ≡ true
+      macro-counts : micro groupLimit ps v ≡ false → kind groupLimit ps v ≡ length (jumpsWithin groupLimit ps i)
       unfolding kind
+      macro-counts m = rw m (macro-kind ps small (j .tree) groupLimit v hv m ∙ ap (λ p. length (jumpsWithin groupLimit ps p)) at-v)
+
+      micro-marked : (b : Bool) → micro groupLimit ps v ≡ b → microMark ≤ k → b ≡ true
       micro-marked true m a = refl
       micro-marked false m a =
-          let q : kind groupLimit ps v ≡ length (jumpsWithin groupLimit ps i) = rw m (macro-kind ps small (j .tree) groupLimit v hv m ∙ ap (λ p. length (jumpsWithin groupLimit ps p)) at-v) in
+          let q = macro-counts m in
           let few = j .few in
           absurd (omega (arith, q, kind-is, few-before, few, ord-many))
 
-      macro-unmarked : (b : Bool) → micro groupLimit ps v ≡ b → k < microMark → (b ≡ false) × (k ≡ length (jumpsWithin groupLimit ps i))
+      macro-unmarked : (b : Bool) → micro groupLimit ps v ≡ b → k < microMark → k ≡ length (jumpsWithin groupLimit ps i)
       unfolding kind microKind
-      macro-unmarked true m h =
+      macro-unmarked true m a =
           let q : kind groupLimit ps v ≡ microKind groupLimit ps v = rw m in
           absurd (omega (arith, q, kind-is))
-      macro-unmarked false m h = (refl, kind-is ∙ rw m (macro-kind ps small (j .tree) groupLimit v hv m ∙ ap (λ p. length (jumpsWithin groupLimit ps p)) at-v))
+      macro-unmarked false m a = kind-is ∙ macro-counts m
 
       pub leap-room : k < microMark → k < length ord
-      leap-room b = omega (arith, macro-unmarked (micro groupLimit ps v) refl b .1, few-before)
+      leap-room b = omega (arith, macro-unmarked (micro groupLimit ps v) refl b, few-before)
 
       module _ (cells : List ℕ) (l : Leaping ps i cells) where
         -- a macro entry stands in the cell of its kind until a later one of that kind takes the cell
@@ -98,7 +100,7 @@ module _ (ps ord kinds : List ℕ) (j : Jumping ps ord kinds) where
         leap-macro x q n b = go (jumpNode groupLimit ps v) refl
           where
             z : k ≡ length (jumpsWithin groupLimit ps i)
-            z = macro-unmarked (micro groupLimit ps v) refl b .1
+            z = macro-unmarked (micro groupLimit ps v) refl b
 
             go : (t : Bool) → jumpNode groupLimit ps v ≡ t → Leaping ps (i + 1) (set cells k x)
             go true m =
