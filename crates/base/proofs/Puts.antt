@@ -3,9 +3,10 @@ use mathlib.Core.Path.{_≡_, refl, sym, ap, _∙_}
 use mathlib.Core.List.{List, _++_, append-assoc}
 use Prim.Native.Nat.{ℕ, _+_, _-_, _≤_}
 use native.Mathlib.Omega.{arith}
+use native.Mathlib.Decide.{decLe}
 use borrow.Rule.Slice.PartMut.{midOf, putMid, post-is}
-use lib.ListN.{length, take, drop, length-append, length-take, length-drop, take-append-drop}
-use lib.Seq.{drop-append-le, drop-append-seam, drop-at, drop-drop, take-at, take-add, take-all}
+use lib.ListN.{length, take, drop, length-append, length-take, length-drop, drop-of-length-le}
+use lib.Seq.{drop-at, drop-drop, length-take-le, take-at, take-add, take-all, take-nil, take-take}
 use Rattle.base.specs.Lists.{view, put}
 use Rattle.base.proofs.Views.{view-back, view-other}
 
@@ -57,3 +58,20 @@ view-join a c d l = take-add c d (drop a l) ∙ ap (λ r. take c (drop a l) ++ t
 pub view-all : (c : ℕ) (l : List ℕ) → length l ≡ c → view 0 c l ≡ l
 unfolding view
 view-all c l e = take-all c l (omega arith)
+
+-- a part of a part, and so a part of the words that were put
+view-view : (a k b c : ℕ) (l : List ℕ) → b + c ≤ k → view b c (view a k l) ≡ view (a + b) c l
+unfolding view
+view-view a k b c l h =
+    let z : b + (k - b) ≡ k = omega arith in
+    let e : drop b (take k (drop a l)) ≡ take (k - b) (drop b (drop a l)) = go (drop a l) (decLe b (length (drop a l))) z in
+    ap (take c) e ∙ take-take c (k - b) (drop b (drop a l)) (omega arith) ∙ ap (take c) (drop-drop b a l)
+  where
+    go : (m : List ℕ) → Dec (b ≤ length m) → b + (k - b) ≡ k → drop b (take k m) ≡ take (k - b) (drop b m)
+    go m (yes g) z = ap (λ j. drop b (take j m)) (sym z) ∙ ap (drop b) (take-add b (k - b) m) ∙ drop-at (take b m) _ b (length-take-le b m g)
+    go m (no g) z =
+        drop-of-length-le (take k m) {i = b} (simp length-take (omega arith))
+        ∙ sym (ap (take (k - b)) (drop-of-length-le m {i = b} (omega arith)) ∙ take-nil (k - b))
+
+pub put-inside : (l : List ℕ) (a : ℕ) (x : List ℕ) → a + length x ≤ length l → (b c : ℕ) → b + c ≤ length x → view (a + b) c (put l a x) ≡ view b c x
+put-inside l a x room b c h = sym (view-view a (length x) b c (put l a x) h) ∙ ap (view b c) (put-view l a x room (length x) refl)
