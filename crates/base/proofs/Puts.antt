@@ -1,12 +1,12 @@
 -- A part of a list replaced by other words: what stands there, before it and behind it. Assumes nothing.
 use mathlib.Core.Path.{_≡_, refl, sym, ap, _∙_}
-use mathlib.Core.List.{List, _++_, append-assoc}
+use mathlib.Core.List.{List, [], _++_, append-assoc}
 use Prim.Native.Nat.{ℕ, _+_, _-_, _≤_}
 use native.Mathlib.Omega.{arith}
 use native.Mathlib.Decide.{decLe}
 use borrow.Rule.Slice.PartMut.{midOf, putMid, post-is}
-use lib.ListN.{length, take, drop, length-append, length-take, length-drop, drop-of-length-le}
-use lib.Seq.{drop-at, drop-drop, length-take-le, take-at, take-add, take-all, take-nil, take-take}
+use lib.ListN.{length, take, drop, length-append, length-take, length-drop, take-append-drop, drop-of-length-le}
+use lib.Seq.{drop-append-le, drop-at, drop-drop, length-take-le, take-at, take-add, take-all, take-nil, take-take}
 use Rattle.base.specs.Lists.{view, put}
 use Rattle.base.proofs.Views.{view-back, view-other}
 
@@ -49,6 +49,39 @@ module _ (l : List ℕ) (a : ℕ) (x : List ℕ) (room : a + length x ≤ length
   pub put-again : (y : List ℕ) → length y ≡ length x → put (put l a x) a y ≡ put l a y
   unfolding put
   put-again y e = rw (e) (ap (λ r. take a (put l a x) ++ (y ++ r)) put-drop ∙ ap (λ r. r ++ (y ++ drop (a + length x) l)) (take-at (take a l) (x ++ drop (a + length x) l) a (simp length-take (omega arith))))
+
+pub put-none : (l : List ℕ) (a : ℕ) → put l a [] ≡ l
+unfolding put
+put-none l a = let z : a + 0 ≡ a = omega arith in ap (λ k. take a l ++ drop k l) z ∙ take-append-drop a l
+
+-- words put behind those that were put
+pub put-more : (l : List ℕ) (a b : ℕ) (x y : List ℕ) → a + length x ≡ b → b + length y ≤ length l → put (put l a x) b y ≡ put l a (x ++ y)
+unfolding put
+put-more l a b x y e h =
+    let room : a + length x ≤ length l = omega arith in
+    let front : take b (put l a x) ≡ take a l ++ x
+    = ap (take b) (sym (append-assoc (take a l) x (drop (a + length x) l))) ∙ take-at (take a l ++ x) _ b (simp (length-append, length-take) (omega arith)) in
+    let z : b + length y ≡ (a + length x) + length y = omega arith in
+    let w : (a + length x) + length y ≡ a + length (x ++ y) = omega (arith, length-append x y) in
+    let back : drop (b + length y) (put l a x) ≡ drop (a + length (x ++ y)) l
+    = ap (λ k. drop k (put l a x)) z ∙ sym (drop-drop (length y) (a + length x) (put l a x)) ∙ ap (drop (length y)) (put-drop l a x room) ∙ drop-drop (length y) (a + length x) l ∙ ap (λ k. drop k l) w in
+    ap (λ f. f ++ (y ++ drop (b + length y) (put l a x))) front
+    ∙ ap (λ r. (take a l ++ x) ++ (y ++ r)) back
+    ∙ append-assoc (take a l) x (y ++ drop (a + length (x ++ y)) l)
+    ∙ ap (λ r. take a l ++ r) (sym (append-assoc x y (drop (a + length (x ++ y)) l)))
+
+-- words put over the front of others
+pub put-over : (l : List ℕ) (a : ℕ) (x y : List ℕ) → a + length y ≤ length l → length x ≤ length y → put (put l a y) a x ≡ put l a (x ++ drop (length x) y)
+unfolding put
+put-over l a x y h k =
+    let front : take a (put l a y) ≡ take a l = take-at (take a l) (y ++ drop (a + length y) l) a (simp length-take (omega arith)) in
+    let split : drop (a + length x) (put l a y) ≡ drop (length x) (y ++ drop (a + length y) l)
+    = sym (drop-drop (length x) a (put l a y)) ∙ ap (drop (length x)) (drop-at (take a l) _ a (simp length-take (omega arith))) in
+    let whole : a + length (x ++ drop (length x) y) ≡ a + length y = omega (arith, length-append x (drop (length x) y), length-drop (length x) y) in
+    ap (λ f. f ++ (x ++ drop (a + length x) (put l a y))) front
+    ∙ ap (λ r. take a l ++ (x ++ r)) (split ∙ drop-append-le (length x) y _ k)
+    ∙ ap (λ r. take a l ++ r) (sym (append-assoc x (drop (length x) y) (drop (a + length y) l)))
+    ∙ ap (λ m. take a l ++ ((x ++ drop (length x) y) ++ drop m l)) (sym whole)
 
 -- parts that lie side by side
 pub view-join : (a c d : ℕ) (l : List ℕ) → view a (c + d) l ≡ view a c l ++ view (a + c) d l

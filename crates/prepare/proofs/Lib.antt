@@ -7,3 +7,4 @@ pub mod Verdicts
 pub mod Staging
 pub mod Loading
 pub mod Assembly
+pub mod Recording

@@ -60,3 +60,13 @@ pub record Sectioned (ps table : List ℕ) : Type 0 where
   pub depths : view 4 (length ps) table ≡ below (length ps) (depth ps)
   pub orders : view (4 + length ps * 3) (length ps) table ≡ order ps
   pub pres : view (4 + length ps * 4) (length ps) table ≡ below (length ps) (position ps)
+
+-- what a record is filled from: DEPTH, LADPOS, and the ladders from a cell on
+pub record Reached (ps : List ℕ) (ladders : ℕ) (table : List ℕ) : Type 0 where
+  pub few : length ps ≤ mostEntries
+  pub tree : Tree ps
+  pub long : 4 + length ps * 3 ≤ length table
+  pub fits : ladders + length ps * 2 ≤ length table
+  pub depths : view 4 (length ps) table ≡ below (length ps) (depth ps)
+  pub places : view (4 + length ps * 2) (length ps) table ≡ below (length ps) (ladPos ps)
+  pub rungs : view ladders (length ps * 2) table ≡ ladderCells ps

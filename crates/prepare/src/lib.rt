@@ -3,6 +3,7 @@ mod faults;
 mod link;
 mod lost;
 mod parts;
+mod records;
 mod regions;
 mod sections;
 mod stray;
