@@ -5,7 +5,7 @@ use mathlib.Core.List.{List, [], _∷_, _++_, flatMap}
 use Prim.Native.Nat.{ℕ, _+_, _*_, _-_, _/_, _≤_, _<_}
 use native.Mathlib.Omega.{arith}
 use native.Mathlib.Numerals.{add-one}
-use borrow.Rule.Slice.PartMut.{midOf, putMid}
+use borrow.Rule.Slice.PartMut.{mid-len, midOf, putMid}
 use lib.ListN.{length, getD, take, drop, replicate, length-replicate, length-append, length-take}
 use lib.Seq.{take-all, take-suc}
 use Rattle.base.specs.Lists.{view, put, padded}
@@ -142,14 +142,37 @@ module _ (ps t : List ℕ) (few : length ps ≤ mostEntries) (tree : Tree ps) (s
       ∙ ap (λ k. take k cells) e
       ∙ l)
 
+  -- JUMPS wiped, and what the records then ask
+  abbrev first : ℕ
+  first = 4 + length ps * 11
+
+  abbrev zeros : List ℕ
+  zeros = replicate (recordWords * jumpRoom (length ps)) 0
+
+  zeros-wide : length zeros ≡ recordWords * jumpRoom (length ps)
+  zeros-wide = length-replicate {A = ℕ} (recordWords * jumpRoom (length ps)) 0
+
+  pub wiped : (cells : List ℕ) → cells ≡ replicate (length (midOf first (length t - first) t)) 0 → putMid first (length t - first) t cells ≡ put t first zeros
+  wiped cells e =
+      let z : length (midOf first (length t - first) t) ≡ recordWords * jumpRoom (length ps) = mid-len first (length t) t (omega arith) ∙ omega arith in
+      lent-back first (length t) t cells zeros (e ∙ ap (λ k. replicate k 0) z) (omega (arith, zeros-wide))
+
+  pub ready : (t₁ nodes : List ℕ) → t₁ ≡ put t first zeros → nodes ≡ jumpNodes groupLimit ps
+      → Reached ps (4 + length ps * 6) t₁ × (4 + length ps * 3 ≤ first) × (4 + length ps * 6 + length ps * 2 ≤ first) × (first + recordWords * length nodes ≤ length t₁) × ((i : ℕ) → i < length nodes → getD nodes i 0 < length ps)
+  ready t₁ nodes e f =
+      let b : first + length zeros ≤ length t = omega (arith, zeros-wide) in (
+        rw e (reached-put ps (4 + length ps * 6) t reached-of first zeros (omega arith) (omega arith) b),
+        omega arith,
+        omega arith,
+        omega (arith, ap length e, ap length f, put-length t first zeros b, nodes-few),
+        rw f nodes-in,
+      )
+
   -- the records over zeros
-  pub records-padded : (zeros : List ℕ) → zeros ≡ replicate (recordWords * jumpRoom (length ps)) 0
-      → put (put t (4 + length ps * 11) zeros) (4 + length ps * 11) (flatMap (jumpRecord ps) (jumpNodes groupLimit ps)) ≡ put t (4 + length ps * 11) (jumpCells ps)
+  pub jumps-laid : (t₁ nodes new : List ℕ) → t₁ ≡ put t first zeros → nodes ≡ jumpNodes groupLimit ps → new ≡ put t₁ first (flatMap (jumpRecord ps) nodes) → new ≡ put t first (jumpCells ps)
   unfolding padded
-  records-padded zeros e =
-      let m = recordWords * jumpRoom (length ps) in
+  jumps-laid t₁ nodes new e f g =
       let x = flatMap (jumpRecord ps) (jumpNodes groupLimit ps) in
-      let l : length zeros ≡ m = ap length e ∙ length-replicate {A = ℕ} m 0 in
-      let f : length x ≤ length zeros = omega (arith, jumps-length groupLimit ps, nodes-few) in
-      put-over t (4 + length ps * 11) x zeros (omega arith) f
-      ∙ ap (λ r. put t (4 + length ps * 11) (x ++ r)) (ap (drop (length x)) e ∙ drop-zeros (length x) m)
+      g
+      ∙ rw (e, f) (put-over t first x zeros (omega (arith, zeros-wide)) (omega (arith, zeros-wide, jumps-length groupLimit ps, nodes-few)))
+      ∙ ap (λ r. put t first (x ++ r)) (drop-zeros (length x) (recordWords * jumpRoom (length ps)))

@@ -50,7 +50,17 @@ pub(crate) fn jump_section(parents: &[u32], jumps: u32, table: &mut [u32], space
     let n = parents.len();
     let b = n * 2;
     let first = 4 + n * 11;
-    jump_nodes(&table[4 + n * 3..4 + n * 4], &table[4 + n..4 + n * 2], &mut space[b..n * 3]);
+    jump_nodes(
+        &table[4 + n * 3..4 + n * 4],
+        &table[4 + n..4 + n * 2],
+        &mut space[b..n * 3],
+    );
     zero(&mut table[first..]);
-    records(parents, table, 4 + n * 6, first, &space[b..b + jumps as usize]);
+    records(
+        parents,
+        table,
+        4 + n * 6,
+        first,
+        &space[b..b + jumps as usize],
+    );
 }

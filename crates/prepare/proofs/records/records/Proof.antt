@@ -1,54 +1,49 @@
+-- `records::records` meets its contract: the loop has laid the records of the first i entries. Assumes nothing.
+use mathlib.Core.Path.{_≡_, refl}
+use Prim.Native.Nat.{_-_}
+use native.Mathlib.Omega.{arith}
+use borrow.Author.Needs.{needs}
+use lib.ListN.{length}
+use Rattle.prepare.proofs.Recording.{Recorded, recorded-none, record-room, recorded-more, recorded-all}
 use Rattle.prepare.proofs.records.records.Statement.{statement}
 use Rattle.prepare.proofs.records.records.Tie as tie
-use Rattle.prepare.proofs.records.records.Reads as reads
-use Rattle.prepare.proofs.records.records.Lts as lts
-use Rattle.prepare.proofs.records.fill_record.Reads as fill-record-reads
 
 abbrev Inv-loop : tie.InvT-loop
-Inv-loop parents table₀ ladders first nodes at₀ i₀ table at i = ?
+Inv-loop parents table₀ ladders first nodes at₀ i₀ table at i = Recorded parents ladders first nodes table₀ table at i
 
 abbrev μ-loop : tie.MeasureT-loop
-μ-loop parents table₀ ladders first nodes at₀ i₀ table at i = ?
+μ-loop parents table₀ ladders first nodes at₀ i₀ table at i = length nodes - i
 
--- src/records.rt:38:5
 loop-holds : tie.Need-loop-holds Inv-loop μ-loop
-loop-holds c = ?
+loop-holds c =
+    let s = c .before .before .before in
+    recorded-none (s .args .parents .now) (s .args .ladders) (s .args .first) (s .args .nodes .now) (s .args .table .now) (s .pre .3) (s .pre .1) (s .pre .2) (s .pre .0)
 
--- src/records.rt:39:55
-mul-t8 : tie.Need-mul-t8 Inv-loop μ-loop
-mul-t8 c = ?
-
--- src/records.rt:39:55
-shared-slice-read-t14 : tie.Need-shared-slice-read-t14 Inv-loop μ-loop
-shared-slice-read-t14 c = ?
-
--- src/records.rt:39:9
 fill-record-requires : tie.Need-fill-record-requires Inv-loop μ-loop
-fill-record-requires c κs = ?
+fill-record-requires c κs =
+    let l = c .before .before .before .loop in
+    let s = c .before .before .before .before .before .before .before in (
+      l .inv .reached,
+      s .pre .4 (l .i) (omega arith),
+      record-room (s .args .parents .now) (s .args .ladders) (s .args .first) (s .args .nodes .now) (s .args .table .now) (s .pre .3) (s .pre .1) (s .pre .2) (l .table) (l .at) (l .i) (omega arith) (l .inv),
+    )
 
--- src/records.rt:40:9
-add-at : tie.Need-add-at Inv-loop μ-loop
-add-at c = ?
-
--- src/records.rt:41:9
-add-i : tie.Need-add-i Inv-loop μ-loop
-add-i c = ?
-
--- src/records.rt:38:5
-loop-less : tie.Need-loop-less Inv-loop μ-loop
-loop-less c = ?
-
--- src/records.rt:38:5
 loop-again : tie.Need-loop-again Inv-loop μ-loop
-loop-again c = ?
+loop-again c =
+    let l = c .before .before .before .before .before .before .loop in
+    let s = c .before .before .before .before .before .before .before .before .before .before in
+    let f = c .before .before .fill-record in
+    recorded-more (s .args .parents .now) (s .args .ladders) (s .args .first) (s .args .nodes .now) (s .args .table .now) (s .pre .3) (s .pre .1) (s .pre .2) (l .table) (l .at) (l .i) (omega arith) (l .inv) (f .last .1 .0) (f .ensures) (f .kept .1 .0)
 
--- src/records.rt:32:1
 same-length : tie.Need-same-length Inv-loop μ-loop
-same-length c = ?
+same-length c =
+    c .before .loop .inv .long
 
--- src/records.rt:32:1
 returns : tie.Need-returns Inv-loop μ-loop
-returns c = ?
+returns c =
+    let l = c .before .loop in
+    let s = c .before .before .before .before .before in
+    recorded-all (s .args .parents .now) (s .args .ladders) (s .args .first) (s .args .nodes .now) (s .args .table .now) (s .pre .3) (s .pre .1) (s .pre .2) (l .table) (l .at) (l .i) (omega arith) (l .inv)
 
 pub records-spec : {M : Type 1} → statement M
 records-spec =
@@ -57,12 +52,12 @@ records-spec =
     Inv-loop
     μ-loop
     loop-holds
-    mul-t8
-    shared-slice-read-t14
+    (λ c. search needs)
+    (λ c. search needs)
     fill-record-requires
-    add-at
-    add-i
-    loop-less
+    (λ c. search needs)
+    (λ c. search needs)
+    (λ c. search needs)
     loop-again
     same-length
     returns)
