@@ -12,22 +12,24 @@ use Rattle.base.specs.Lists.{view, put, padded}
 use Rattle.base.specs.Limits.{mostEntries, groupLimit, jumpRoom, recordWords, tableWords}
 use Rattle.base.proofs.Lists.{below-at}
 use Rattle.base.proofs.Places.{stands}
+use Rattle.base.proofs.Joined.{padded-length}
 use Rattle.base.proofs.Keeping.{keep-in}
-use Rattle.base.proofs.Puts.{lent-back, put-length, put-inside, put-none, put-more, put-over}
+use Rattle.base.proofs.Puts.{lent-back, put-length, put-view, put-inside, put-none, put-more, put-over}
 use Rattle.base.proofs.Rows.{rows-length}
 use Rattle.base.proofs.Views.{view-at}
 use Rattle.tree.specs.Parents.{topMark, depth}
 use Rattle.tree.specs.Forest.{order}
 use Rattle.tree.specs.Faults.{Tree}
 use Rattle.tree.proofs.Positions.{position-before}
-use Rattle.table.specs.Groups.{jumpNode, jumpNodes, jumpRecord}
-use Rattle.table.specs.Table.{jumpCells}
+use Rattle.table.specs.Groups.{groupRoots, jumpNode, jumpNodes, jumpRecord}
+use Rattle.table.specs.Ladders.{pathTops}
+use Rattle.table.specs.Table.{header, jumpCells, tableOf}
 use Rattle.climbs.proofs.Jumps.{jumps-few}
 use Rattle.climbs.proofs.Words.{jump-wide, jumps-length}
 use Rattle.fill.specs.Arrays.{Jumping, Listed, Reaching}
 use Rattle.fill.proofs.Gathering.{rows-more, drop-zeros}
 use Rattle.prepare.specs.Stages.{Walked, Sectioned, Reached}
-use Rattle.prepare.proofs.Assembly.{stays}
+use Rattle.prepare.proofs.Assembly.{stays, sectioned-put, whole-table}
 use Rattle.prepare.proofs.Staging.{lent}
 
 -- what one record is filled from
@@ -176,3 +178,19 @@ module _ (ps t : List ℕ) (few : length ps ≤ mostEntries) (tree : Tree ps) (s
       g
       ∙ rw (e, f) (put-over t first x zeros (omega (arith, zeros-wide)) (omega (arith, zeros-wide, jumps-length groupLimit ps, nodes-few)))
       ∙ ap (λ r. put t first (x ++ r)) (drop-zeros (length x) (recordWords * jumpRoom (length ps)))
+
+  -- with the header, the whole table
+  pub finished : (t₁ t₂ : List ℕ) (jumps groups paths : ℕ) → jumps ≡ length (jumpNodes groupLimit ps) → groups ≡ length (groupRoots groupLimit ps) → paths ≡ length (pathTops ps)
+      → t₁ ≡ put t first (jumpCells ps) → t₂ ≡ put t₁ 0 (length ps ∷ jumps ∷ groups ∷ paths ∷ []) → t₂ ≡ tableOf ps
+  unfolding header
+  finished t₁ t₂ jumps groups paths ej eg ep e₁ e₂ =
+      let m = recordWords * jumpRoom (length ps) in
+      let h = length ps ∷ jumps ∷ groups ∷ paths ∷ [] in
+      let wide : length (jumpCells ps) ≡ m = padded-length m _ (omega (arith, jumps-length groupLimit ps, nodes-few)) in
+      let l₁ = put t first (jumpCells ps) in
+      let b₀ : first + length (jumpCells ps) ≤ length t = omega arith in
+      let long₁ = put-length t first (jumpCells ps) b₀ in
+      let b₁ : 0 + length h ≤ length l₁ = omega arith in
+      e₂ ∙ ap (λ l. put l 0 h) e₁ ∙ whole-table ps (put l₁ 0 h) (sectioned-put ps l₁ 0 h b₁ (inr (omega arith)) (sectioned-put ps t first (jumpCells ps) b₀ (inl (omega arith)) s)) (put-length l₁ 0 h b₁ ∙ long₁ ∙ long)
+      (stays l₁ 0 h b₁ first m (inr (omega arith)) ∙ put-view t first (jumpCells ps) b₀ m wide)
+      (put-view l₁ 0 h b₁ 4 refl ∙ rw (ej, eg, ep))

@@ -1,5 +1,6 @@
 // Judging a parent list on a lent working space of 6n words.
 mod faults;
+mod filling;
 mod link;
 mod lost;
 mod parts;
