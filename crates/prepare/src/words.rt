@@ -4,13 +4,6 @@ ghost use mathlib.Core.List.{_++_};
 ghost use Prim.Native.Nat.{_≤_};
 ghost use lib.ListN.{length, drop, replicate};
 
-// A word as a place.
-pub(crate) fn wide(x: u32) -> usize
-    ensures { λ r. ⌜ r ≡ x ⌝ }
-{
-    x as usize
-}
-
 // Each word of `part` becomes x.
 pub(crate) fn fill(part: &mut [u32], x: u32)
     ensures { λ _. ⌜ now (part .exit) ≡ replicate (length (now (part .entry))) x ⌝ }

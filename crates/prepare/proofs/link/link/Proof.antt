@@ -17,7 +17,7 @@ use Rattle.prepare.proofs.link.link.Tie as tie
 
 abbrev Inv-loop : tie.InvT-loop
 Inv-loop parents space₀ n a b first₀ i₀ space first i =
-    (n ≡ length parents) × (a ≡ 2 * length parents) × (b ≡ 3 * length parents) × (i ≤ n) × (6 * length parents ≤ length space) × Linked parents i (heads parents space) (nexts parents space) first × (length space ≡ length space₀)
+    (n ≡ length parents) × (a ≡ 2 * length parents) × (b ≡ 3 * length parents) × (i ≤ n) × (6 * length parents ≤ length space) × Linked parents i (heads parents space) (nexts parents space) (first .0) × (length space ≡ length space₀)
 
 abbrev μ-loop : tie.MeasureT-loop
 μ-loop parents space₀ n a b first₀ i₀ space first i = i
@@ -54,16 +54,17 @@ start b = b .before .before .before .before .before .before .before
 
 loop-again : tie.Need-loop-again Inv-loop μ-loop
 loop-again c =
-    let b = c .before .before .before .before .before in
+    let n = c .before .before .before in
+    let b = n .before .before .before .before in
     let l = b .loop in
     let ps = start b .args .parents .now in
-    let q = c .before .before .wide .result in (
+    let q = word ps (l .i - 1) in (
       l .inv .0,
       l .inv .1,
       l .inv .2,
       omega arith,
       simp length-set (l .inv .4),
-      link-below-in ps (l .space) (omega arith) (l .inv .4) (l .i) (l .i - 1) (length ps * 2 + q) (length ps * 3 + (l .i - 1)) q (l .first) (omega arith) (omega arith) (omega arith) (omega arith) (c .before .before .wide .ensures) (c .before .if1 .taken) (l .inv .5),
+      link-below-in ps (l .space) (omega arith) (l .inv .4) (l .i) (l .i - 1) (length ps * 2 + q) (length ps * 3 + (l .i - 1)) q (l .first .0) (omega arith) (omega arith) (omega arith) (omega arith) refl (n .if1 .taken) (l .inv .5),
       simp length-set (l .inv .6),
     )
 
@@ -74,14 +75,14 @@ loop-again-2 c =
     let ps = start b .args .parents .now in
     let below : l .i - 1 < length ps = omega arith in
     let own : word ps (l .i - 1) ≡ topMark =
-    ⊎-elim (λ h. absurd (omega (arith, c .before .wide .ensures, c .if1 .left))) (λ e. e) (start b .pre .2 (l .i - 1) below)
+    ⊎-elim (λ h. absurd (omega (arith, c .if1 .left))) (λ e. e) (start b .pre .2 (l .i - 1) below)
     in (
       l .inv .0,
       l .inv .1,
       l .inv .2,
       omega arith,
       simp length-set (l .inv .4),
-      link-top-in ps (l .space) (omega arith) (l .inv .4) (l .i) (l .i - 1) (length ps * 3 + (l .i - 1)) (l .first) (omega arith) below (omega arith) own (l .inv .5),
+      link-top-in ps (l .space) (omega arith) (l .inv .4) (l .i) (l .i - 1) (length ps * 3 + (l .i - 1)) (l .first .0) (omega arith) below (omega arith) own (l .inv .5),
       simp length-set (l .inv .6),
     )
 
@@ -115,7 +116,9 @@ link-spec =
     (λ c. search needs)
     (λ c. search needs)
     (λ c. search needs)
-    (λ c κs. search needs)
+    (λ c. search needs)
+    (λ c. search needs)
+    (λ c. search needs)
     (λ c. search needs)
     (λ c. search needs)
     (λ c. search needs)

@@ -47,12 +47,12 @@ loop-holds c =
 abbrev start : tie.At-loop Inv-loop μ-loop → tie.Start Inv-loop μ-loop
 start b = b .before .before .before .before .before .before .before
 
-low : (c : tie.After-wide Inv-loop μ-loop) → c .wide .result < length (start (c .before .before .before) .args .parents .now)
+low : (c : tie.After-slice-known3 Inv-loop μ-loop) → getD (c .before .before .loop .space) (c .before .before .loop .i) 0 < length (start (c .before .before) .args .parents .now)
 low c =
-    let b = c .before .before .before in
+    let b = c .before .before in
     let s = start b in
     let l = b .loop in
-    rw (c .wide .ensures) (word-low (s .args .parents .now) (l .space) (omega arith) (l .inv .2) (s .args .count) (l .i) (omega arith) (s .pre .2) (l .inv .3))
+    word-low (s .args .parents .now) (l .space) (omega arith) (l .inv .2) (s .args .count) (l .i) (omega arith) (s .pre .2) (l .inv .3)
 
 loop-again : tie.Need-loop-again Inv-loop μ-loop
 loop-again c =
@@ -60,8 +60,8 @@ loop-again c =
     let s = start b in
     let l = b .loop in
     let ps = s .args .parents .now in
-    let q = length ps * 5 + c .wide .result in
-    let e : length ps * 5 + c .wide .result ≡ 5 * length ps + getD (l .space) (l .i) 0 = omega (arith, c .wide .ensures) in (
+    let q = length ps * 5 + getD (l .space) (l .i) 0 in
+    let e : q ≡ 5 * length ps + getD (l .space) (l .i) 0 = omega arith in (
       l .inv .0,
       omega arith,
       simp length-set (l .inv .2),
@@ -98,10 +98,10 @@ mark-spec =
     loop-holds
     (λ c. omega (arith, order-short (start (c .before) .args .parents .now) (omega arith)))
     (λ c. omega (arith, order-short (start (c .before .before) .args .parents .now) (omega arith)))
-    (λ c κs. search needs)
-    (λ c. omega (arith, low c))
-    (λ c. omega (arith, low c))
-    (λ c. omega (arith, low c))
+    (λ c. search needs)
+    (λ c. omega (arith, low (c .before)))
+    (λ c. omega (arith, low (c .before)))
+    (λ c. omega (arith, low (c .before)))
     (λ c. search needs)
     (λ c. search needs)
     loop-again
