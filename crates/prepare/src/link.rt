@@ -5,7 +5,7 @@ ghost use Rattle.prepare.specs.Regions.{NoStray, Linked, heads, nexts};
 use crate::words::fill;
 use base::Node;
 
-// Links the entries, and hands back the first top.
+// Links the entries, and hands back the first top, or the top mark.
 pub(crate) fn link(parents: &[u32], space: &mut [u32]) -> Node
     requires { ⌜ (length (now parents) ≤ 1048576) × (6 * length (now parents) ≤ length (now space)) × NoStray (now parents) ⌝ }
     ensures { λ r. ⌜ Linked (now (parents .entry)) 0 (heads (now (parents .entry)) (now (space .exit))) (nexts (now (parents .entry)) (now (space .exit))) (r .0) ⌝ }

@@ -1,4 +1,4 @@
-// Words of the list and of the space.
+// Filling words of the space.
 ghost use mathlib.Core.Path.{_≡_};
 ghost use mathlib.Core.List.{_++_};
 ghost use Prim.Native.Nat.{_≤_};

@@ -1,17 +1,15 @@
 -- `link::link` meets its contract. The entries from i on are linked. Assumes nothing.
-use mathlib.Core.Path.{_≡_, refl, sym, ap, _∙_}
+use mathlib.Core.Path.{_≡_, refl, _∙_}
 use mathlib.Core.Logic.{⊎-elim}
-use mathlib.Core.List.{_++_}
 use Prim.Native.Nat.{_+_, _*_, _-_, _≤_, _<_}
 use native.Mathlib.Omega.{arith}
 use borrow.Author.Needs.{needs}
-use borrow.Rule.Slice.PartMut.{mid-len, same-len-mid, postOf}
-use lib.ListN.{length, take, replicate, length-set}
-use Rattle.base.specs.Lists.{view}
+use borrow.Rule.Slice.PartMut.{same-len-mid}
+use lib.ListN.{length, length-set}
 use Rattle.tree.specs.Parents.{topMark, word}
 use Rattle.prepare.specs.Regions.{Linked, heads, nexts}
 use Rattle.prepare.proofs.Chains.{from-end, link-below-in, link-top-in}
-use Rattle.base.proofs.Views.{view-back, filled-at}
+use Rattle.prepare.proofs.Filling.{filled-part}
 use Rattle.prepare.proofs.link.link.Statement.{statement}
 use Rattle.prepare.proofs.link.link.Tie as tie
 
@@ -28,21 +26,14 @@ loop-holds c =
     let s = f .before .before .before .before in
     let ps = s .args .parents .now in
     let xs = s .args .space .now in
-    let ys = f .fill .last .0 in
-    let t : length ps * 2 ≡ 2 * length ps = omega arith in
-    let same : length ys ≡ length ps = omega (arith, f .fill .kept .0, mid-len (length ps * 2) (length ps * 3) xs (omega arith)) in
-    let z : length ps * 3 - length ps * 2 ≡ length ps = omega arith in
-    let all : ys ≡ replicate (length ps) topMark = f .fill .ensures ∙ ap (λ n. replicate n topMark) (mid-len (length ps * 2) (length ps * 3) xs (omega arith) ∙ z) in
-    let back : view (2 * length ps) (length ps) (take (length ps * 2) xs ++ (ys ++ postOf (length ps * 2) (length ps * 3 - length ps * 2) xs)) ≡ ys =
-    rw (sym t) (view-back (length ps * 2) (length ps) xs ys (postOf (length ps * 2) (length ps * 3 - length ps * 2) xs) (omega arith) same)
-    in (
+    let ys = f .fill .last .0 in (
       refl,
-      t,
+      omega arith,
       omega arith,
       omega arith,
       omega (arith, same-len-mid (length ps * 2) (length ps * 3 - length ps * 2) xs ys (f .fill .kept .0)),
       record {
-        heads = λ v h. rw back (filled-at ys (length ps) topMark v all (omega arith) ∙ rw (from-end ps (length ps) v (omega arith)));
+        heads = λ v h. filled-part (length ps * 2) (length ps * 3) (length ps) topMark xs ys (omega arith) (omega arith) (f .fill .ensures) (2 * length ps) (omega arith) v h ∙ rw (from-end ps (length ps) v (omega arith));
         nexts = λ j h k. absurd (omega arith);
         tops = rw (from-end ps (length ps) topMark (omega arith));
       },

@@ -1,15 +1,16 @@
 -- `lost::mark` meets its contract. Assumes nothing.
-use mathlib.Core.Path.{_≡_, refl, sym, ap, _∙_}
+use mathlib.Core.Path.{_≡_, refl, _∙_}
 use mathlib.Core.List.{_++_}
 use Prim.Native.Nat.{_+_, _*_, _-_, _≤_, _<_}
 use native.Mathlib.Omega.{arith}
 use borrow.Author.Needs.{needs}
-use borrow.Rule.Slice.PartMut.{mid-len, same-len-mid, postOf}
-use lib.ListN.{length, getD, take, replicate, length-set}
+use borrow.Rule.Slice.PartMut.{same-len-mid, postOf}
+use lib.ListN.{length, getD, length-set}
 use Rattle.base.specs.Lists.{view}
 use Rattle.tree.specs.Forest.{order}
 use Rattle.prepare.proofs.Marking.{Marking, mark-none, mark-end, word-low, order-kept, mark-in}
-use Rattle.base.proofs.Views.{view-back, view-other, filled-at}
+use Rattle.base.proofs.Views.{view-other}
+use Rattle.prepare.proofs.Filling.{filled-part}
 use Rattle.tree.proofs.Forests.{order-short}
 use Rattle.prepare.proofs.lost.mark.Statement.{statement}
 use Rattle.prepare.proofs.lost.mark.Tie as tie
@@ -27,20 +28,12 @@ loop-holds c =
     let s = f .before .before .before .before in
     let ps = s .args .parents .now in
     let xs = s .args .space .now in
-    let ys = f .fill .last .0 in
-    let t : length ps * 5 ≡ 5 * length ps = omega arith in
-    let same : length ys ≡ length ps = omega (arith, f .fill .kept .0, mid-len (length ps * 5) (length ps * 6) xs (omega arith)) in
-    let z : length ps * 6 - length ps * 5 ≡ length ps = omega arith in
-    let all : ys ≡ replicate (length ps) 0 = f .fill .ensures ∙ ap (λ n. replicate n 0) (mid-len (length ps * 5) (length ps * 6) xs (omega arith) ∙ z) in
-    let rest = ys ++ postOf (length ps * 5) (length ps * 6 - length ps * 5) xs in
-    let back : view (5 * length ps) (length ps) (take (length ps * 5) xs ++ rest) ≡ ys =
-    rw (sym t) (view-back (length ps * 5) (length ps) xs ys (postOf (length ps * 5) (length ps * 6 - length ps * 5) xs) (omega arith) same)
-    in (
-      t,
+    let ys = f .fill .last .0 in (
+      omega arith,
       omega arith,
       omega (arith, same-len-mid (length ps * 5) (length ps * 6 - length ps * 5) xs ys (f .fill .kept .0)),
-      view-other (length ps * 5) 0 (s .args .count) xs rest (omega (arith, order-short ps (omega arith))) (omega arith) ∙ s .pre .3,
-      rw back (mark-none ps (omega arith) ys (λ v h. filled-at ys (length ps) 0 v all (omega arith))),
+      view-other (length ps * 5) 0 (s .args .count) xs (ys ++ postOf (length ps * 5) (length ps * 6 - length ps * 5) xs) (omega (arith, order-short ps (omega arith))) (omega arith) ∙ s .pre .3,
+      mark-none ps (omega arith) _ (filled-part (length ps * 5) (length ps * 6) (length ps) 0 xs ys (omega arith) (omega arith) (f .fill .ensures) (5 * length ps) (omega arith)),
       refl,
     )
 
