@@ -7,7 +7,7 @@ ghost use lib.ListN.{length};
 ghost use Rattle.tree.specs.Parents.{topMark, parent};
 ghost use Rattle.fill.specs.Arrays.{entryAt, Climbs, Members, Grouped};
 use crate::kinds::group_root;
-use crate::spread::zero;
+use crate::spread::set_all;
 use base::Position;
 
 // The entry above the one at a position, or the top mark.
@@ -27,7 +27,7 @@ pub fn groups(order: &[u32], depth: &[u32], size: &[u32], above: &[u32], cells: 
     requires { ⌜ ((ps : List ℕ) × Members ps (now order) (now depth) (now size) (now above)) × (length (now cells) ≡ 3 * length (now order)) ⌝ }
     ensures { λ _. ⌜ ((ps : List ℕ) → Members ps (now (order .entry)) (now (depth .entry)) (now (size .entry)) (now (above .entry)) → Grouped ps (now (cells .exit))) ⌝ }
 {
-    zero(cells);
+    set_all(cells, 0);
     let mut at: usize = 0;
     let mut i: usize = 0;
     while i < order.len() {

@@ -6,7 +6,7 @@ ghost use lib.ListN.{length};
 ghost use Rattle.tree.specs.Parents.{depth};
 ghost use Rattle.tree.specs.Forest.{pathTop};
 ghost use Rattle.fill.specs.Arrays.{entryAt, Paths, Runs, Laid, Climbs, Risen, Rungs, Laddered};
-use crate::spread::zero;
+use crate::spread::set_all;
 use base::Position;
 
 fn lesser(a: u32, b: u32) -> u32
@@ -96,7 +96,7 @@ pub fn ladders(
     requires { ⌜ ((ps : List ℕ) × Rungs ps (now order) (now places) (now depth) (now height) (now long) (now above)) × (length (now cells) ≡ 2 * length (now order)) ⌝ }
     ensures { λ _. ⌜ ((ps : List ℕ) → Rungs ps (now (order .entry)) (now (places .entry)) (now (depth .entry)) (now (height .entry)) (now (long .entry)) (now (above .entry)) → Laddered ps (now (cells .exit))) ⌝ }
 {
-    zero(cells);
+    set_all(cells, 0);
     let mut i: usize = 0;
     while i < order.len() {
         let at = i;

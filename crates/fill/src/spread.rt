@@ -44,13 +44,13 @@ pub fn copy(from: &[u32], to: &mut [u32])
     }
 }
 
-// Zeros.
-pub fn zero(cells: &mut [u32])
-    ensures { λ _. ⌜ now (cells .exit) ≡ replicate (length (now (cells .entry))) 0 ⌝ }
+// Each cell becomes x.
+pub fn set_all(cells: &mut [u32], x: u32)
+    ensures { λ _. ⌜ now (cells .exit) ≡ replicate (length (now (cells .entry))) x ⌝ }
 {
     let mut i: usize = 0;
     while i < cells.len() {
-        cells[i] = 0;
+        cells[i] = x;
         i += 1;
     }
 }

@@ -1,5 +1,6 @@
 -- Laws of the working space.
 pub mod Chains
+pub mod Filled
 pub mod Marking
 pub mod Pending
 pub mod Searches

@@ -9,7 +9,7 @@ use crate::link::link;
 use crate::lost::first_lost;
 use crate::stray::first_stray;
 use crate::walk::walk;
-use crate::words::wide;
+use base::Node;
 
 pub(crate) fn faults(parents: &[u32], space: &mut [u32]) -> Reply
     requires { ⌜ (length (now parents) ≤ 1048576) × (6 * length (now parents) ≤ length (now space)) ⌝ }
@@ -18,22 +18,24 @@ pub(crate) fn faults(parents: &[u32], space: &mut [u32]) -> Reply
 {
     let n = parents.len();
     let s = first_stray(parents);
-    if wide(s) < n {
-        return Reply { number: 4, word: s };
+    if (s.0 as usize) < n {
+        return Reply {
+            number: 4,
+            word: s.0,
+        };
     }
     let first = link(parents, space);
-    let t = wide(first);
-    if n <= t {
+    if n <= first.0 as usize {
         return Reply {
             number: 5,
             word: n as u32,
         };
     }
-    let u = wide(space[n * 3 + t]);
-    if u < n {
+    let second = Node(space[n * 3 + first.0 as usize]);
+    if (second.0 as usize) < n {
         return Reply {
             number: 5,
-            word: u as u32,
+            word: second.0,
         };
     }
     let count = walk(parents, first, space);
@@ -41,7 +43,7 @@ pub(crate) fn faults(parents: &[u32], space: &mut [u32]) -> Reply
         let w = first_lost(parents, count, space);
         return Reply {
             number: 6,
-            word: w as u32,
+            word: w.0,
         };
     }
     Reply {

@@ -2,29 +2,29 @@
 ghost use Prim.Native.Nat.{_*_, _≤_};
 ghost use lib.ListN.{length};
 ghost use Rattle.prepare.specs.Regions.{NoStray, Linked, heads, nexts};
-use crate::words::fill;
-use crate::words::wide;
+use base::Node;
+use fill::spread::set_all;
 
-// Links the entries, and hands back the first top.
-pub(crate) fn link(parents: &[u32], space: &mut [u32]) -> u32
+// Links the entries, and hands back the first top, or the top mark.
+pub(crate) fn link(parents: &[u32], space: &mut [u32]) -> Node
     requires { ⌜ (length (now parents) ≤ 1048576) × (6 * length (now parents) ≤ length (now space)) × NoStray (now parents) ⌝ }
-    ensures { λ r. ⌜ Linked (now (parents .entry)) 0 (heads (now (parents .entry)) (now (space .exit))) (nexts (now (parents .entry)) (now (space .exit))) r ⌝ }
+    ensures { λ r. ⌜ Linked (now (parents .entry)) 0 (heads (now (parents .entry)) (now (space .exit))) (nexts (now (parents .entry)) (now (space .exit))) (r .0) ⌝ }
 {
     let n = parents.len();
     let a = n * 2;
     let b = n * 3;
-    fill(&mut space[a..b], 4294967295);
-    let mut first = 4294967295;
+    set_all(&mut space[a..b], 4294967295);
+    let mut first = Node(4294967295);
     let mut i = n;
     while 0 < i {
         i -= 1;
-        let q = wide(parents[i]);
-        if q < n {
-            space[b + i] = space[a + q];
-            space[a + q] = i as u32;
+        let over = Node(parents[i]);
+        if (over.0 as usize) < n {
+            space[b + i] = space[a + over.0 as usize];
+            space[a + over.0 as usize] = i as u32;
         } else {
-            space[b + i] = first;
-            first = i as u32;
+            space[b + i] = first.0;
+            first = Node(i as u32);
         }
     }
     first

@@ -9,8 +9,8 @@ ghost use Rattle.base.specs.Lists.{below, first, view};
 ghost use Rattle.tree.specs.Forest.{order};
 ghost use Rattle.tree.specs.Faults.{lowest, meetsTop};
 ghost use Rattle.prepare.specs.Regions.{orAll, Marked};
-use crate::words::fill;
-use crate::words::wide;
+use base::Node;
+use fill::spread::set_all;
 
 // Marks the entries of the preorder in region 5.
 fn mark(parents: &[u32], count: usize, space: &mut [u32])
@@ -20,34 +20,35 @@ fn mark(parents: &[u32], count: usize, space: &mut [u32])
     let n = parents.len();
     let a = n * 5;
     let b = n * 6;
-    fill(&mut space[a..b], 0);
+    set_all(&mut space[a..b], 0);
     let mut i = 0;
     while i < count {
-        let v = wide(space[i]);
-        space[a + v] = 1;
+        let v = Node(space[i]);
+        space[a + v.0 as usize] = 1;
         i += 1;
     }
 }
 
-// The lowest place of a 0, or how many there are.
-fn first_unmarked(marks: &[u32]) -> usize
-    ensures { λ r. ⌜ r ≡ orAll (first (λ v. eqb (getD (now (marks .entry)) v 0) 0) (below (length (now (marks .entry))) (λ v. v))) (length (now (marks .entry))) ⌝ }
+// The lowest entry whose mark is 0, or how many there are.
+fn first_unmarked(marks: &[u32]) -> Node
+    requires { ⌜ length (now marks) ≤ 1048576 ⌝ }
+    ensures { λ r. ⌜ r .0 ≡ orAll (first (λ v. eqb (getD (now (marks .entry)) v 0) 0) (below (length (now (marks .entry))) (λ v. v))) (length (now (marks .entry))) ⌝ }
 {
     let mut i = 0;
     while i < marks.len() {
         let x = marks[i];
         if x == 0 {
-            return i;
+            return Node(i as u32);
         }
         i += 1;
     }
-    i
+    Node(i as u32)
 }
 
 // The lowest entry whose climb never meets the top, where there is one.
-pub(crate) fn first_lost(parents: &[u32], count: usize, space: &mut [u32]) -> usize
+pub(crate) fn first_lost(parents: &[u32], count: usize, space: &mut [u32]) -> Node
     requires { ⌜ (length (now parents) ≤ 1048576) × (6 * length (now parents) ≤ length (now space)) × (count ≡ length (order (now parents))) × (view 0 count (now space) ≡ order (now parents)) × (count < length (now parents)) ⌝ }
-    ensures { λ r. ⌜ (r < length (now (parents .entry))) × (lowest (now (parents .entry)) (λ v. not (meetsTop (now (parents .entry)) v)) ≡ some r) ⌝ }
+    ensures { λ r. ⌜ (r .0 < length (now (parents .entry))) × (lowest (now (parents .entry)) (λ v. not (meetsTop (now (parents .entry)) v)) ≡ some (r .0)) ⌝ }
 {
     mark(parents, count, space);
     let n = parents.len();

@@ -12,7 +12,7 @@ use base::Node;
 use fill::jumps::jump_nodes;
 use fill::jumps::record;
 use fill::spread::copy;
-use fill::spread::zero;
+use fill::spread::set_all;
 
 // The record of an entry, from DEPTH, LADPOS and the ladders, which lie wherever they are said to, into the words from `at` on.
 fn fill_record(parents: &[u32], table: &mut [u32], ladders: usize, at: usize, v: Node)
@@ -55,7 +55,7 @@ pub(crate) fn jump_section(parents: &[u32], jumps: u32, table: &mut [u32], space
         &table[4 + n..4 + n * 2],
         &mut space[b..n * 3],
     );
-    zero(&mut table[first..]);
+    set_all(&mut table[first..], 0);
     records(
         parents,
         table,

@@ -4,26 +4,23 @@ ghost use Prim.Native.Nat.{_≤_};
 ghost use lib.ListN.{length};
 ghost use Rattle.tree.specs.Faults.{lowest, isStray};
 ghost use Rattle.prepare.specs.Regions.{orAll};
-use crate::words::wide;
+use base::Node;
 
 // The lowest entry whose word is stray, or n.
-pub(crate) fn first_stray(parents: &[u32]) -> u32
+pub(crate) fn first_stray(parents: &[u32]) -> Node
     requires { ⌜ length (now parents) ≤ 1048576 ⌝ }
-    ensures { λ r. ⌜ r ≡ orAll (lowest (now (parents .entry)) (isStray (now (parents .entry)))) (length (now (parents .entry))) ⌝ }
+    ensures { λ r. ⌜ r .0 ≡ orAll (lowest (now (parents .entry)) (isStray (now (parents .entry)))) (length (now (parents .entry))) ⌝ }
 {
     let mut i = 0;
     while i < parents.len() {
-        let p = parents[i];
-        let q = wide(p);
-        if q < parents.len() {
+        let over = Node(parents[i]);
+        if (over.0 as usize) < parents.len() {
+            i += 1;
+        } else if over.0 == 4294967295 {
             i += 1;
         } else {
-            if p == 4294967295 {
-                i += 1;
-            } else {
-                return i as u32;
-            }
+            return Node(i as u32);
         }
     }
-    i as u32
+    Node(i as u32)
 }

@@ -1,31 +1,14 @@
-// Words of the list and of the space.
+// The working space as it is left.
 ghost use mathlib.Core.Path.{_≡_};
 ghost use mathlib.Core.List.{_++_};
 ghost use Prim.Native.Nat.{_≤_};
 ghost use lib.ListN.{length, drop, replicate};
-
-// A word as a place.
-pub(crate) fn wide(x: u32) -> usize
-    ensures { λ r. ⌜ r ≡ x ⌝ }
-{
-    x as usize
-}
-
-// Each word of `part` becomes x.
-pub(crate) fn fill(part: &mut [u32], x: u32)
-    ensures { λ _. ⌜ now (part .exit) ≡ replicate (length (now (part .entry))) x ⌝ }
-{
-    let mut i = 0;
-    while i < part.len() {
-        part[i] = x;
-        i += 1;
-    }
-}
+use fill::spread::set_all;
 
 // The first m words become 0, and the others stay.
 pub(crate) fn clear(space: &mut [u32], m: usize)
     requires { ⌜ m ≤ length (now space) ⌝ }
     ensures { λ _. ⌜ now (space .exit) ≡ replicate m 0 ++ drop m (now (space .entry)) ⌝ }
 {
-    fill(&mut space[0..m], 0);
+    set_all(&mut space[0..m], 0);
 }

@@ -31,7 +31,7 @@ abbrev μ-loop : tie.MeasureT-loop
 loop-holds : tie.Need-loop-holds Inv-loop μ-loop
 loop-holds c =
     let s = c .before .before .before .before .before .before .before .before .before .before .before in
-    let wiped = c .before .before .zero .ensures in
+    let wiped = c .before .before .set-all .ensures in
     let (ps, r) = s .pre .0 in (
       omega arith,
       record {

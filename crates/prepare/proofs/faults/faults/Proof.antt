@@ -5,7 +5,7 @@ use mathlib.Core.Option.{none}
 use Prim.Native.Nat.{ℕ, _+_, _*_, _≤_}
 use native.Mathlib.Omega.{arith}
 use borrow.Author.Needs.{needs}
-use lib.ListN.{length}
+use lib.ListN.{length, getD}
 use Rattle.base.specs.Numbers.{accepted, stray, tops, loop}
 use Rattle.tree.specs.Parents.{topMark, children}
 use Rattle.tree.specs.Faults.{lowest, isStray}
@@ -24,47 +24,54 @@ abbrev listed : tie.After-first-stray → List ℕ
 listed f = start f .args .parents .now
 
 fine : (c : tie.Else1) → lowest (listed (c .before .before)) (isStray (listed (c .before .before))) ≡ none
-fine c = found-none (isStray (listed (c .before .before))) (length (listed (c .before .before))) (c .before .before .first-stray .result) (c .before .before .first-stray .ensures) (rw (c .before .wide .ensures) at (c .if1 .left))
+fine c = found-none (isStray (listed (c .before .before))) (length (listed (c .before .before))) (c .before .before .first-stray .result .0) (c .before .before .first-stray .ensures) (c .if1 .left)
 
-abbrev checked : tie.After-wide2 → tie.Else1
+abbrev checked : tie.After-struct-known2 → tie.Else1
 checked w = w .before .before .before .before .before
 
-abbrev list : tie.After-wide2 → List ℕ
+abbrev list : tie.After-struct-known2 → List ℕ
 list w = listed (checked w .before .before)
 
-tiny : (w : tie.After-wide2) → length (list w) ≤ topMark
+tiny : (w : tie.After-struct-known2) → length (list w) ≤ topMark
 tiny w = omega (arith, start (checked w .before .before) .pre .0)
 
-first-is : (w : tie.After-wide2) → w .wide2 .result ≡ firstOf (children (list w) topMark)
-first-is w = w .wide2 .ensures ∙ w .before .before .before .link .ensures .tops
+-- the first top, and the next one
+abbrev one : tie.After-struct-known2 → ℕ
+one w = w .before .before .before .link .result .0
 
-abbrev topped : tie.After-wide3 → tie.After-wide2
-topped x = x .before .before .before
+one-is : (w : tie.After-struct-known2) → one w ≡ firstOf (children (list w) topMark)
+one-is w = w .before .before .before .link .ensures .tops
 
-next-is : (x : tie.After-wide3) → x .wide3 .result ≡ firstOf (after (list (topped x)) (topped x .wide2 .result))
-next-is x =
+abbrev topped : tie.After-struct-known4 → tie.After-struct-known2
+topped x = x .before .before .before .before
+
+abbrev two : tie.After-struct-known4 → ℕ
+two x = getD (topped x .before .before .before .link .last .1 .0) (length (list (topped x)) * 3 + one (topped x)) 0
+
+two-is : (x : tie.After-struct-known4) → two x ≡ firstOf (after (list (topped x)) (one (topped x)))
+two-is x =
     let w = topped x in
     let l = w .before .before .before .link in
-    x .wide3 .ensures
-    ∙ view-at (3 * length (list w)) (length (list w)) (l .last .1 .0) (w .wide2 .result) (length (list w) * 3 + w .wide2 .result) (omega arith) (omega arith)
-    ∙ l .ensures .nexts (w .wide2 .result) (omega arith) (omega arith)
+    view-at (3 * length (list w)) (length (list w)) (l .last .1 .0) (one w) (length (list w) * 3 + one w) (omega arith) (omega arith)
+    ∙ l .ensures .nexts (one w) (omega arith) (omega arith)
 
 returns : tie.Need-returns
 returns c =
     let f = c .before .before in
     let ps = listed f in
-    (says _ (stray (f .first-stray .result)) (verdict-stray ps (omega arith) (f .first-stray .result) (found-some (isStray ps) (length ps) (f .first-stray .result) (f .first-stray .ensures) (rw (c .before .wide .ensures) at (c .if1 .taken)))), λ z. absurd (omega arith))
+    let s = f .first-stray .result .0 in
+    (says _ (stray s) (verdict-stray ps (omega arith) s (found-some (isStray ps) (length ps) s (f .first-stray .ensures) (c .if1 .taken))), λ z. absurd (omega arith))
 
 returns-2 : tie.Need-returns-2
 returns-2 c =
     let w = c .before in
-    (says _ (tops (length (list w))) (verdict-none (list w) (tiny w) (fine (checked w)) (w .wide2 .result) (first-is w) (c .if2 .taken)), λ z. absurd (omega arith))
+    (says _ (tops (length (list w))) (verdict-none (list w) (tiny w) (fine (checked w)) (one w) (one-is w) (c .if2 .taken)), λ z. absurd (omega arith))
 
 returns-3 : tie.Need-returns-3
 returns-3 c =
     let x = c .before in
     let w = topped x in
-    (says _ (tops (x .wide3 .result)) (verdict-two (list w) (tiny w) (fine (checked w)) (w .wide2 .result) (first-is w) (x .before .before .if2 .left) (x .wide3 .result) (next-is x) (c .if3 .taken)), λ z. absurd (omega arith))
+    (says _ (tops (two x)) (verdict-two (list w) (tiny w) (fine (checked w)) (one w) (one-is w) (x .before .before .before .if2 .left) (two x) (two-is x) (c .if3 .taken)), λ z. absurd (omega arith))
 
 returns-4 : tie.Need-returns-4
 returns-4 c =
@@ -72,7 +79,8 @@ returns-4 c =
     let o = y .before .before .before .before .before .before .before in
     let x = o .before in
     let w = topped x in
-    (says _ (loop (y .first-lost .result)) (verdict-loop (list w) (tiny w) (fine (checked w)) (w .wide2 .result) (first-is w) (x .before .before .if2 .left) (x .wide3 .result) (next-is x) (o .if3 .left) (y .first-lost .result) (y .first-lost .ensures .1)), λ z. absurd (omega arith))
+    let v = y .first-lost .result .0 in
+    (says _ (loop v) (verdict-loop (list w) (tiny w) (fine (checked w)) (one w) (one-is w) (x .before .before .before .if2 .left) (two x) (two-is x) (o .if3 .left) v (y .first-lost .ensures .1)), λ z. absurd (omega arith))
 
 returns-5 : tie.Need-returns-5
 returns-5 c =
@@ -82,17 +90,17 @@ returns-5 c =
     let w = topped x in
     let whole = order-short (list w) (tiny w) in
     let z : k .walk .result ≡ length (list w) = omega (arith, k .walk .ensures .0, c .if4 .left) in
-    (says _ (accepted (length (list w))) (verdict-whole (list w) (tiny w) (fine (checked w)) (w .wide2 .result) (first-is w) (x .before .before .if2 .left) (x .wide3 .result) (next-is x) (o .if3 .left) (k .walk .result) (k .walk .ensures .0) whole (c .if4 .left)), λ e. record { orders = rw z at (k .walk .ensures .1); depths = rw z at (k .walk .ensures .2) })
+    (says _ (accepted (length (list w))) (verdict-whole (list w) (tiny w) (fine (checked w)) (one w) (one-is w) (x .before .before .before .if2 .left) (two x) (two-is x) (o .if3 .left) (k .walk .result) (k .walk .ensures .0) whole (c .if4 .left)), λ e. record { orders = rw z at (k .walk .ensures .1); depths = rw z at (k .walk .ensures .2) })
 
 pub faults-spec : {M : Type 1} → statement M
 faults-spec =
     tie.close
     (tie.spec
     (λ c κs. search needs)
-    (λ c κs. search needs)
+    (λ c. search needs)
     returns
     (λ c κs. let s = start (c .before .before .before) in (s .pre .0, s .pre .1, no-stray (s .args .parents .now) (fine (c .before))))
-    (λ c κs. search needs)
+    (λ c. search needs)
     (λ c. search needs)
     (λ c. search needs)
     returns-2
@@ -100,13 +108,12 @@ faults-spec =
     (λ c. search needs)
     (λ c. search needs)
     (λ c. search needs)
-    (λ c κs. search needs)
+    (λ c. search needs)
     (λ c. search needs)
     (λ c. search needs)
     returns-3
     (λ c κs. search needs)
     (λ c κs. search needs)
-    (λ c. search needs)
     (λ c. search needs)
     returns-4
     (λ c. search needs)

@@ -1,23 +1,21 @@
 -- `link::link` meets its contract. The entries from i on are linked. Assumes nothing.
-use mathlib.Core.Path.{_≡_, refl, sym, ap, _∙_}
+use mathlib.Core.Path.{_≡_, refl, _∙_}
 use mathlib.Core.Logic.{⊎-elim}
-use mathlib.Core.List.{_++_}
 use Prim.Native.Nat.{_+_, _*_, _-_, _≤_, _<_}
 use native.Mathlib.Omega.{arith}
 use borrow.Author.Needs.{needs}
-use borrow.Rule.Slice.PartMut.{mid-len, same-len-mid, postOf}
-use lib.ListN.{length, take, replicate, length-set}
-use Rattle.base.specs.Lists.{view}
+use borrow.Rule.Slice.PartMut.{same-len-mid}
+use lib.ListN.{length, length-set}
 use Rattle.tree.specs.Parents.{topMark, word}
 use Rattle.prepare.specs.Regions.{Linked, heads, nexts}
 use Rattle.prepare.proofs.Chains.{from-end, link-below-in, link-top-in}
-use Rattle.base.proofs.Views.{view-back, filled-at}
+use Rattle.prepare.proofs.Filled.{filled-part}
 use Rattle.prepare.proofs.link.link.Statement.{statement}
 use Rattle.prepare.proofs.link.link.Tie as tie
 
 abbrev Inv-loop : tie.InvT-loop
 Inv-loop parents space₀ n a b first₀ i₀ space first i =
-    (n ≡ length parents) × (a ≡ 2 * length parents) × (b ≡ 3 * length parents) × (i ≤ n) × (6 * length parents ≤ length space) × Linked parents i (heads parents space) (nexts parents space) first × (length space ≡ length space₀)
+    (n ≡ length parents) × (a ≡ 2 * length parents) × (b ≡ 3 * length parents) × (i ≤ n) × (6 * length parents ≤ length space) × Linked parents i (heads parents space) (nexts parents space) (first .0) × (length space ≡ length space₀)
 
 abbrev μ-loop : tie.MeasureT-loop
 μ-loop parents space₀ n a b first₀ i₀ space first i = i
@@ -28,21 +26,14 @@ loop-holds c =
     let s = f .before .before .before .before in
     let ps = s .args .parents .now in
     let xs = s .args .space .now in
-    let ys = f .fill .last .0 in
-    let t : length ps * 2 ≡ 2 * length ps = omega arith in
-    let same : length ys ≡ length ps = omega (arith, f .fill .kept .0, mid-len (length ps * 2) (length ps * 3) xs (omega arith)) in
-    let z : length ps * 3 - length ps * 2 ≡ length ps = omega arith in
-    let all : ys ≡ replicate (length ps) topMark = f .fill .ensures ∙ ap (λ n. replicate n topMark) (mid-len (length ps * 2) (length ps * 3) xs (omega arith) ∙ z) in
-    let back : view (2 * length ps) (length ps) (take (length ps * 2) xs ++ (ys ++ postOf (length ps * 2) (length ps * 3 - length ps * 2) xs)) ≡ ys =
-    rw (sym t) (view-back (length ps * 2) (length ps) xs ys (postOf (length ps * 2) (length ps * 3 - length ps * 2) xs) (omega arith) same)
-    in (
+    let ys = f .set-all .last .0 in (
       refl,
-      t,
       omega arith,
       omega arith,
-      omega (arith, same-len-mid (length ps * 2) (length ps * 3 - length ps * 2) xs ys (f .fill .kept .0)),
+      omega arith,
+      omega (arith, same-len-mid (length ps * 2) (length ps * 3 - length ps * 2) xs ys (f .set-all .kept .0)),
       record {
-        heads = λ v h. rw back (filled-at ys (length ps) topMark v all (omega arith) ∙ rw (from-end ps (length ps) v (omega arith)));
+        heads = λ v h. filled-part (length ps * 2) (length ps * 3) (length ps) topMark xs ys (omega arith) (omega arith) (f .set-all .ensures) (2 * length ps) (omega arith) v h ∙ rw (from-end ps (length ps) v (omega arith));
         nexts = λ j h k. absurd (omega arith);
         tops = rw (from-end ps (length ps) topMark (omega arith));
       },
@@ -54,16 +45,17 @@ start b = b .before .before .before .before .before .before .before
 
 loop-again : tie.Need-loop-again Inv-loop μ-loop
 loop-again c =
-    let b = c .before .before .before .before .before in
+    let n = c .before .before .before in
+    let b = n .before .before .before .before in
     let l = b .loop in
     let ps = start b .args .parents .now in
-    let q = c .before .before .wide .result in (
+    let q = word ps (l .i - 1) in (
       l .inv .0,
       l .inv .1,
       l .inv .2,
       omega arith,
       simp length-set (l .inv .4),
-      link-below-in ps (l .space) (omega arith) (l .inv .4) (l .i) (l .i - 1) (length ps * 2 + q) (length ps * 3 + (l .i - 1)) q (l .first) (omega arith) (omega arith) (omega arith) (omega arith) (c .before .before .wide .ensures) (c .before .if1 .taken) (l .inv .5),
+      link-below-in ps (l .space) (omega arith) (l .inv .4) (l .i) (l .i - 1) (length ps * 2 + q) (length ps * 3 + (l .i - 1)) q (l .first .0) (omega arith) (omega arith) (omega arith) (omega arith) refl (n .if1 .taken) (l .inv .5),
       simp length-set (l .inv .6),
     )
 
@@ -74,14 +66,14 @@ loop-again-2 c =
     let ps = start b .args .parents .now in
     let below : l .i - 1 < length ps = omega arith in
     let own : word ps (l .i - 1) ≡ topMark =
-    ⊎-elim (λ h. absurd (omega (arith, c .before .wide .ensures, c .if1 .left))) (λ e. e) (start b .pre .2 (l .i - 1) below)
+    ⊎-elim (λ h. absurd (omega (arith, c .if1 .left))) (λ e. e) (start b .pre .2 (l .i - 1) below)
     in (
       l .inv .0,
       l .inv .1,
       l .inv .2,
       omega arith,
       simp length-set (l .inv .4),
-      link-top-in ps (l .space) (omega arith) (l .inv .4) (l .i) (l .i - 1) (length ps * 3 + (l .i - 1)) (l .first) (omega arith) below (omega arith) own (l .inv .5),
+      link-top-in ps (l .space) (omega arith) (l .inv .4) (l .i) (l .i - 1) (length ps * 3 + (l .i - 1)) (l .first .0) (omega arith) below (omega arith) own (l .inv .5),
       simp length-set (l .inv .6),
     )
 
@@ -90,7 +82,7 @@ same-length c =
     let b = c .before in
     let f = b .before .before .before in
     let n = length (start b .args .parents .now) in
-    b .loop .inv .6 ∙ same-len-mid (n * 2) (n * 3 - n * 2) (start b .args .space .now) (f .fill .last .0) (f .fill .kept .0)
+    b .loop .inv .6 ∙ same-len-mid (n * 2) (n * 3 - n * 2) (start b .args .space .now) (f .set-all .last .0) (f .set-all .kept .0)
 
 returns : tie.Need-returns Inv-loop μ-loop
 returns c =
@@ -115,7 +107,9 @@ link-spec =
     (λ c. search needs)
     (λ c. search needs)
     (λ c. search needs)
-    (λ c κs. search needs)
+    (λ c. search needs)
+    (λ c. search needs)
+    (λ c. search needs)
     (λ c. search needs)
     (λ c. search needs)
     (λ c. search needs)

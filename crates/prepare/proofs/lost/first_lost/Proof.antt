@@ -26,7 +26,7 @@ returns c =
     let full : 6 * length ps ≤ length xs = omega (arith, g .mark .kept .1 .1 .0) in
     let long : length part ≡ length ps = ap length same ∙ view-length (5 * length ps) (length ps) xs (omega arith) in
     let marked : Marked ps part = rw same (g .mark .ensures) in
-    lost-is ps (omega arith) part long marked (c .first-unmarked .result) (omega arith) (c .first-unmarked .ensures)
+    lost-is ps (omega arith) part long marked (c .first-unmarked .result .0) (omega arith) (c .first-unmarked .ensures)
 
 pub first-lost-spec : {M : Type 1} → statement M
 first-lost-spec =

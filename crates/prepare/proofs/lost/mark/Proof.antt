@@ -1,15 +1,16 @@
 -- `lost::mark` meets its contract. Assumes nothing.
-use mathlib.Core.Path.{_≡_, refl, sym, ap, _∙_}
+use mathlib.Core.Path.{_≡_, refl, _∙_}
 use mathlib.Core.List.{_++_}
 use Prim.Native.Nat.{_+_, _*_, _-_, _≤_, _<_}
 use native.Mathlib.Omega.{arith}
 use borrow.Author.Needs.{needs}
-use borrow.Rule.Slice.PartMut.{mid-len, same-len-mid, postOf}
-use lib.ListN.{length, getD, take, replicate, length-set}
+use borrow.Rule.Slice.PartMut.{same-len-mid, postOf}
+use lib.ListN.{length, getD, length-set}
 use Rattle.base.specs.Lists.{view}
 use Rattle.tree.specs.Forest.{order}
 use Rattle.prepare.proofs.Marking.{Marking, mark-none, mark-end, word-low, order-kept, mark-in}
-use Rattle.base.proofs.Views.{view-back, view-other, filled-at}
+use Rattle.base.proofs.Views.{view-other}
+use Rattle.prepare.proofs.Filled.{filled-part}
 use Rattle.tree.proofs.Forests.{order-short}
 use Rattle.prepare.proofs.lost.mark.Statement.{statement}
 use Rattle.prepare.proofs.lost.mark.Tie as tie
@@ -27,32 +28,24 @@ loop-holds c =
     let s = f .before .before .before .before in
     let ps = s .args .parents .now in
     let xs = s .args .space .now in
-    let ys = f .fill .last .0 in
-    let t : length ps * 5 ≡ 5 * length ps = omega arith in
-    let same : length ys ≡ length ps = omega (arith, f .fill .kept .0, mid-len (length ps * 5) (length ps * 6) xs (omega arith)) in
-    let z : length ps * 6 - length ps * 5 ≡ length ps = omega arith in
-    let all : ys ≡ replicate (length ps) 0 = f .fill .ensures ∙ ap (λ n. replicate n 0) (mid-len (length ps * 5) (length ps * 6) xs (omega arith) ∙ z) in
-    let rest = ys ++ postOf (length ps * 5) (length ps * 6 - length ps * 5) xs in
-    let back : view (5 * length ps) (length ps) (take (length ps * 5) xs ++ rest) ≡ ys =
-    rw (sym t) (view-back (length ps * 5) (length ps) xs ys (postOf (length ps * 5) (length ps * 6 - length ps * 5) xs) (omega arith) same)
-    in (
-      t,
+    let ys = f .set-all .last .0 in (
       omega arith,
-      omega (arith, same-len-mid (length ps * 5) (length ps * 6 - length ps * 5) xs ys (f .fill .kept .0)),
-      view-other (length ps * 5) 0 (s .args .count) xs rest (omega (arith, order-short ps (omega arith))) (omega arith) ∙ s .pre .3,
-      rw back (mark-none ps (omega arith) ys (λ v h. filled-at ys (length ps) 0 v all (omega arith))),
+      omega arith,
+      omega (arith, same-len-mid (length ps * 5) (length ps * 6 - length ps * 5) xs ys (f .set-all .kept .0)),
+      view-other (length ps * 5) 0 (s .args .count) xs (ys ++ postOf (length ps * 5) (length ps * 6 - length ps * 5) xs) (omega (arith, order-short ps (omega arith))) (omega arith) ∙ s .pre .3,
+      mark-none ps (omega arith) _ (filled-part (length ps * 5) (length ps * 6) (length ps) 0 xs ys (omega arith) (omega arith) (f .set-all .ensures) (5 * length ps) (omega arith)),
       refl,
     )
 
 abbrev start : tie.At-loop Inv-loop μ-loop → tie.Start Inv-loop μ-loop
 start b = b .before .before .before .before .before .before .before
 
-low : (c : tie.After-wide Inv-loop μ-loop) → c .wide .result < length (start (c .before .before .before) .args .parents .now)
+low : (c : tie.After-slice-known3 Inv-loop μ-loop) → getD (c .before .before .loop .space) (c .before .before .loop .i) 0 < length (start (c .before .before) .args .parents .now)
 low c =
-    let b = c .before .before .before in
+    let b = c .before .before in
     let s = start b in
     let l = b .loop in
-    rw (c .wide .ensures) (word-low (s .args .parents .now) (l .space) (omega arith) (l .inv .2) (s .args .count) (l .i) (omega arith) (s .pre .2) (l .inv .3))
+    word-low (s .args .parents .now) (l .space) (omega arith) (l .inv .2) (s .args .count) (l .i) (omega arith) (s .pre .2) (l .inv .3)
 
 loop-again : tie.Need-loop-again Inv-loop μ-loop
 loop-again c =
@@ -60,8 +53,8 @@ loop-again c =
     let s = start b in
     let l = b .loop in
     let ps = s .args .parents .now in
-    let q = length ps * 5 + c .wide .result in
-    let e : length ps * 5 + c .wide .result ≡ 5 * length ps + getD (l .space) (l .i) 0 = omega (arith, c .wide .ensures) in (
+    let q = length ps * 5 + getD (l .space) (l .i) 0 in
+    let e : q ≡ 5 * length ps + getD (l .space) (l .i) 0 = omega arith in (
       l .inv .0,
       omega arith,
       simp length-set (l .inv .2),
@@ -75,7 +68,7 @@ same-length c =
     let b = c .before in
     let f = b .before .before .before in
     let n = length (start b .args .parents .now) in
-    b .loop .inv .5 ∙ same-len-mid (n * 5) (n * 6 - n * 5) (start b .args .space .now) (f .fill .last .0) (f .fill .kept .0)
+    b .loop .inv .5 ∙ same-len-mid (n * 5) (n * 6 - n * 5) (start b .args .space .now) (f .set-all .last .0) (f .set-all .kept .0)
 
 returns : tie.Need-returns Inv-loop μ-loop
 returns c =
@@ -98,10 +91,10 @@ mark-spec =
     loop-holds
     (λ c. omega (arith, order-short (start (c .before) .args .parents .now) (omega arith)))
     (λ c. omega (arith, order-short (start (c .before .before) .args .parents .now) (omega arith)))
-    (λ c κs. search needs)
-    (λ c. omega (arith, low c))
-    (λ c. omega (arith, low c))
-    (λ c. omega (arith, low c))
+    (λ c. search needs)
+    (λ c. omega (arith, low (c .before)))
+    (λ c. omega (arith, low (c .before)))
+    (λ c. omega (arith, low (c .before)))
     (λ c. search needs)
     (λ c. search needs)
     loop-again

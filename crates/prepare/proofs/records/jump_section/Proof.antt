@@ -49,7 +49,7 @@ records-requires c κs =
     let t = s .args .table .now in
     let w = s .pre .0 in
     let j = c .before .before .before .before .before .before .before .before .before .jump-nodes in
-    let z = c .before .before .before .before .before .zero in
+    let z = c .before .before .before .before .before .set-all in
     ready ps t (w .few) (w .tree) (s .pre .1) (s .pre .2) _ _ (wiped ps t (w .few) (w .tree) (s .pre .1) (s .pre .2) (z .last .0) (z .ensures)) (nodes-lent s (j .last .1 .1 .0) (j .kept .1 .1 .0) (j .ensures ps (jumping-of ps t (w .few) (w .tree) (s .pre .1) (s .pre .2))))
 
 returns : tie.Need-returns
@@ -59,7 +59,7 @@ returns c =
     let t = s .args .table .now in
     let w = s .pre .0 in
     let j = c .before .before .before .before .before .before .before .before .before .before .before .before .jump-nodes in
-    let z = c .before .before .before .before .before .before .before .before .zero in
+    let z = c .before .before .before .before .before .before .before .before .set-all in
     let nodes = nodes-lent s (j .last .1 .1 .0) (j .kept .1 .1 .0) (j .ensures ps (jumping-of ps t (w .few) (w .tree) (s .pre .1) (s .pre .2))) in
     jumps-laid ps t (w .few) (w .tree) (s .pre .1) (s .pre .2) _ _ _ (wiped ps t (w .few) (w .tree) (s .pre .1) (s .pre .2) (z .last .0) (z .ensures)) nodes (c .before .before .records .ensures)
 

@@ -1,11 +1,10 @@
 -- `words::clear` meets its contract. Assumes nothing.
-use mathlib.Core.Path.{_≡_, ap, ap₂, _∙_}
+use mathlib.Core.Path.{ap₂}
 use mathlib.Core.List.{_++_}
-use Prim.Native.Nat.{_-_}
-use lib.ListN.{replicate}
 use native.Mathlib.Omega.{arith}
-use borrow.Rule.Slice.PartMut.{mid-len, post-is}
+use borrow.Rule.Slice.PartMut.{post-is}
 use borrow.Author.Needs.{needs}
+use Rattle.prepare.proofs.Filled.{filled-all}
 use Rattle.prepare.proofs.words.clear.Statement.{statement}
 use Rattle.prepare.proofs.words.clear.Tie as tie
 
@@ -21,5 +20,4 @@ clear-spec =
     (λ c.
     let s = c .before .before .before .before .before in
     let xs = s .args .space .now in
-    let z : s .args .m - 0 ≡ s .args .m = omega arith in
-    ap₂ _++_ (c .before .before .fill .ensures ∙ ap (λ n. replicate n 0) (mid-len 0 (s .args .m) xs (s .pre) ∙ z)) (post-is 0 (s .args .m) xs (omega arith))))
+    ap₂ _++_ (filled-all 0 (s .args .m) (s .args .m) 0 xs _ (omega arith) (s .pre) (c .before .before .set-all .ensures)) (post-is 0 (s .args .m) xs (omega arith))))

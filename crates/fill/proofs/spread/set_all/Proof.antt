@@ -1,4 +1,4 @@
--- `words::fill` meets its contract. Assumes nothing.
+-- `spread::set_all` meets its contract. Assumes nothing.
 use mathlib.Core.Path.{_≡_, _∙_}
 use mathlib.Core.List.{append-nil}
 use Prim.Native.Nat.{ℕ, _-_}
@@ -6,17 +6,17 @@ use native.Mathlib.Omega.{arith}
 use borrow.Author.Needs.{needs}
 use lib.ListN.{length, replicate, replicate-append-replicate, drop-of-length-le}
 use Rattle.base.proofs.Views.{Laid, laid-none, laid-length, laid-more}
-use Rattle.prepare.proofs.words.fill.Statement.{statement}
-use Rattle.prepare.proofs.words.fill.Tie as tie
+use Rattle.fill.proofs.spread.set_all.Statement.{statement}
+use Rattle.fill.proofs.spread.set_all.Tie as tie
 
 abbrev Inv-loop : tie.InvT-loop
-Inv-loop part₀ x i₀ part i = Laid part₀ (replicate i x) part i
+Inv-loop cells₀ x i₀ cells i = Laid cells₀ (replicate i x) cells i
 
 abbrev μ-loop : tie.MeasureT-loop
-μ-loop part₀ x i₀ part i = length part₀ - i
+μ-loop cells₀ x i₀ cells i = length cells₀ - i
 
-pub fill-spec : {M : Type 1} → statement M
-fill-spec =
+pub set-all-spec : {M : Type 1} → statement M
+set-all-spec =
     tie.close
     (tie.spec
     Inv-loop
@@ -33,6 +33,6 @@ fill-spec =
     (λ c. laid-length (c .before .loop .inv))
     (λ c.
     let l = c .before .loop in
-    let d = c .before .before .args .part .now in
+    let d = c .before .before .args .cells .now in
     let e : l .i ≡ length d = omega (arith, laid-length (l .inv)) in
     l .inv .is ∙ rw (drop-of-length-le d {i = l .i} (omega arith), append-nil, e)))
