@@ -6,7 +6,7 @@ use Prim.Native.Nat.{ℕ, _*_, _-_, _≤_, _<_}
 use native.Mathlib.Omega.{arith}
 use borrow.Rule.Slice.PartMut.{midOf, putMid, postOf, post-is, put-same}
 use lib.ListN.{length, drop, replicate}
-use borrow.Author.Tests.{eq-eqb, ne-eqb, lt-ltb, le-ltb}
+use borrow.Author.Tests.{lt-ltb, le-ltb}
 use Rattle.base.specs.Numbers.{Outcome, accepted, count, shortTable, shortSpace}
 use Rattle.base.specs.Limits.{mostEntries, tableWords, spaceWords}
 use Rattle.tree.specs.Faults.{listFault}
@@ -21,27 +21,23 @@ use Rattle.prepare.specs.Verdict.{verdict, Says}
 
 -- 1 to 3
 module _ (n t s : ℕ) where
-  pub call-none : n ≡ 0 → callFault n t s ≡ some count
-  unfolding callFault countFault orElse
-  call-none e = rw (eq-eqb n 0 e)
+  pub call-count : countFault n ≡ some count → callFault n t s ≡ some count
+  unfolding callFault orElse
+  call-count e = rw e
 
-  pub call-many : (n ≡ 0 → ⊥) → mostEntries < n → callFault n t s ≡ some count
-  unfolding callFault countFault orElse
-  call-many e h = rw (ne-eqb n 0 e, lt-ltb mostEntries n h)
-
-  module _ (e : n ≡ 0 → ⊥) (h : n ≤ mostEntries) where
+  module _ (e : countFault n ≡ none) where
     pub call-table : t < tableWords n → callFault n t s ≡ some shortTable
-    unfolding callFault countFault tableFault orElse
-    call-table b = rw (ne-eqb n 0 e, le-ltb mostEntries n h, lt-ltb t (tableWords n) b)
+    unfolding callFault tableFault orElse
+    call-table b = rw (e, lt-ltb t (tableWords n) b)
 
     module _ (b : tableWords n ≤ t) where
       pub call-space : s < spaceWords n → callFault n t s ≡ some shortSpace
-      unfolding callFault countFault tableFault spaceFault orElse
-      call-space d = rw (ne-eqb n 0 e, le-ltb mostEntries n h, le-ltb t (tableWords n) b, lt-ltb s (spaceWords n) d)
+      unfolding callFault tableFault spaceFault orElse
+      call-space d = rw (e, le-ltb t (tableWords n) b, lt-ltb s (spaceWords n) d)
 
       pub call-fine : spaceWords n ≤ s → callFault n t s ≡ none
-      unfolding callFault countFault tableFault spaceFault orElse
-      call-fine d = rw (ne-eqb n 0 e, le-ltb mostEntries n h, le-ltb t (tableWords n) b, le-ltb s (spaceWords n) d)
+      unfolding callFault tableFault spaceFault orElse
+      call-fine d = rw (e, le-ltb t (tableWords n) b, le-ltb s (spaceWords n) d)
 
 -- the answer, the table and the space: turned away before the list is read, and else by what the list alone says
 module _ (ps table space : List ℕ) where

@@ -1,15 +1,15 @@
 -- What a parent list is turned away for, as the steps of judging find it. Assumes nothing.
 use mathlib.Core.Path.{_≡_, sym, ap, _∙_}
 use mathlib.Core.List.{List, _∷_, _++_}
-use mathlib.Core.Bool.{not}
+use mathlib.Core.Bool.{Bool, true, false, not, cond}
 use mathlib.Core.Option.{none, some, Option·elim, orElse}
 use Prim.Native.Nat.{ℕ, suc, _*_, _-_, _≤_, _<_}
 use native.Mathlib.Omega.{arith}
 use lib.ListN.{length, drop, replicate}
-use borrow.Author.Tests.{eq-eqb, ne-eqb, lt-ltb, le-ltb}
+use borrow.Author.Tests.{lt-ltb, le-ltb}
 use Rattle.base.specs.Numbers.{Outcome, accepted, count, shortSpace, stray, tops, loop}
-use Rattle.base.specs.Limits.{mostEntries, spaceWords}
-use Rattle.base.proofs.Lists.{none-first}
+use Rattle.base.specs.Limits.{spaceWords}
+use Rattle.base.proofs.Lists.{none-first, clash}
 use Rattle.tree.specs.Parents.{topMark, word, children}
 use Rattle.tree.specs.Forest.{order}
 use Rattle.tree.specs.Faults.{lowest, isStray, topsFault, meetsTop, loopFault, listFault}
@@ -63,22 +63,27 @@ module _ (ps : List ℕ) (small : length ps ≤ topMark) where
 
 -- what is answered before the list is read, and else
 module _ (n len : ℕ) where
-  pub lend-none : n ≡ 0 → lendFault n len ≡ some count
-  unfolding lendFault countFault orElse
-  lend-none e = rw (eq-eqb n 0 e)
+  pub lend-count : countFault n ≡ some count → lendFault n len ≡ some count
+  unfolding lendFault orElse
+  lend-count e = rw e
 
-  pub lend-many : (n ≡ 0 → ⊥) → mostEntries < n → lendFault n len ≡ some count
-  unfolding lendFault countFault orElse
-  lend-many e h = rw (ne-eqb n 0 e, lt-ltb mostEntries n h)
-
-  module _ (e : n ≡ 0 → ⊥) (h : n ≤ mostEntries) where
+  module _ (e : countFault n ≡ none) where
     pub lend-short : len < spaceWords n → lendFault n len ≡ some shortSpace
-    unfolding lendFault countFault spaceFault orElse
-    lend-short s = rw (ne-eqb n 0 e, le-ltb mostEntries n h, lt-ltb len (spaceWords n) s)
+    unfolding lendFault spaceFault orElse
+    lend-short s = rw (e, lt-ltb len (spaceWords n) s)
 
     pub lend-fine : spaceWords n ≤ len → lendFault n len ≡ none
-    unfolding lendFault countFault spaceFault orElse
-    lend-fine s = rw (ne-eqb n 0 e, le-ltb mostEntries n h, le-ltb len (spaceWords n) s)
+    unfolding lendFault spaceFault orElse
+    lend-fine s = rw (e, le-ltb len (spaceWords n) s)
+
+-- the count as it is tested
+pub counted : (n : ℕ) (r : Bool) → not r ≡ false → countFault n ≡ cond r none (some count) → countFault n ≡ none
+counted n true t e = e
+counted n false t e = clash (sym t)
+
+pub uncounted : (n : ℕ) (r : Bool) → not r ≡ true → countFault n ≡ cond r none (some count) → countFault n ≡ some count
+uncounted n true t e = clash t
+uncounted n false t e = e
 
 module _ (ps space : List ℕ) where
   pub judging-lent : (o : Outcome) → lendFault (length ps) (length space) ≡ some o → (judging ps (length space) ≡ o) × (judgedSpace ps space ≡ space)
