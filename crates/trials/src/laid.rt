@@ -1,0 +1,46 @@
+// The whole table of a list that forms one tree.
+use crate::book::DEPTH;
+use crate::book::ORDER;
+use crate::book::PRE;
+use crate::book::SIZE;
+use crate::book::read;
+use crate::groups::kinds;
+use crate::groups::lay_groups;
+use crate::groups::lay_jumps;
+use crate::groups::list_jumps;
+use crate::groups::list_roots;
+use crate::paths::ladders;
+use crate::plain::keep;
+use crate::words::add;
+use crate::words::clear;
+use crate::words::put;
+use crate::words::start;
+use crate::words::table_words;
+
+// A part of the book into a section of n cells.
+fn section(book: &[u32], part: usize, n: usize, at: usize, want: &mut [u32]) {
+    let mut i = 0;
+    while i < n {
+        put(want, add(at, i), read(book, part, i));
+        i += 1;
+    }
+}
+
+pub fn lay(parents: &[u32], n: usize, book: &mut [u32], want: &mut [u32]) {
+    keep(parents, n, book);
+    let groups = list_roots(parents, n, book);
+    let jumps = list_jumps(parents, n, book);
+    clear(want, table_words(n));
+    section(book, DEPTH, n, start(0, n), want);
+    kinds(book, n, groups, jumps, want);
+    section(book, ORDER, n, start(3, n), want);
+    section(book, PRE, n, start(4, n), want);
+    section(book, SIZE, n, start(5, n), want);
+    let paths = ladders(parents, book, n, want);
+    lay_groups(parents, book, n, groups, want);
+    lay_jumps(parents, book, n, jumps, want);
+    put(want, 0, n);
+    put(want, 1, jumps);
+    put(want, 2, groups);
+    put(want, 3, paths);
+}
