@@ -3,10 +3,7 @@ use crate::codings::any_coded;
 use crate::codings::any_list;
 use crate::codings::grown_coded;
 use crate::codings::grown_list;
-use crate::damage::looped;
-use crate::damage::stray;
-use crate::damage::topless;
-use crate::damage::tops;
+use crate::damage::damage;
 use crate::lists::make;
 use crate::lists::permute;
 use crate::seeds::next;
@@ -18,13 +15,8 @@ use crate::words::times;
 
 pub const LINES: usize = 16;
 
+// the kinds come first, then four lines of lists with a fault, then lists with wrong lengths, then all small lists
 const STRAY: usize = 7;
-
-const TOPS: usize = 8;
-
-const TOPLESS: usize = 9;
-
-const LOOP: usize = 10;
 
 const EMPTY: usize = 11;
 
@@ -79,66 +71,61 @@ pub fn count_at(line: usize) -> usize {
     371
 }
 
-// A list of a kind, with natural numbers where k is even, or else permuted.
-fn list(kind: usize, k: usize, n: usize, seed: usize, parents: &mut [u32]) {
-    make(kind, n, seed, parents);
+// Permutes the numbers of a list where k is odd.
+fn number(n: usize, k: usize, seed: usize, parents: &mut [u32]) {
     if k % 2 == 1 {
         permute(n, next(seed), parents);
     }
 }
 
-// The list of a line that has no fault but in its lengths.
-fn whole(line: usize, k: usize, seed: usize, parents: &mut [u32]) -> usize {
-    if line < STRAY {
-        let n = size_at(k / 4);
-        list(line, k, n, seed, parents);
-        return n;
-    }
-    if line == ANY {
-        let c = any_coded(k);
-        any_list(c.n, c.code, parents);
-        return c.n;
-    }
-    if line == GROWN {
-        let c = grown_coded(k / 2);
-        grown_list(c.n, c.code, parents);
-        if k % 2 == 1 {
-            permute(c.n, seed, parents);
-        }
-        return c.n;
-    }
-    let n = size_at(k / 7);
-    list(k % 7, k, n, seed, parents);
+// A list of a kind, and of a size by its number. Answers its length.
+fn kind_list(kind: usize, size: usize, k: usize, seed: usize, parents: &mut [u32]) -> usize {
+    let n = size_at(size);
+    make(kind, n, seed, parents);
+    number(n, k, seed, parents);
     n
 }
 
-// The k-th case of a line, with its list in `parents`.
-pub fn case_at(line: usize, k: usize, parents: &mut [u32]) -> Case {
-    let seed = next(next(add(k, times(10000, line))));
-    let n = whole(line, k, seed, parents);
+fn any_at(k: usize, parents: &mut [u32]) -> usize {
+    let c = any_coded(k);
+    any_list(c.n, c.code, parents);
+    c.n
+}
+
+fn grown_at(k: usize, seed: usize, parents: &mut [u32]) -> usize {
+    let c = grown_coded(k / 2);
+    grown_list(c.n, c.code, parents);
+    number(c.n, k, seed, parents);
+    c.n
+}
+
+// The list of a line, before any fault.
+fn list_at(line: usize, k: usize, seed: usize, parents: &mut [u32]) -> usize {
+    if line < STRAY {
+        return kind_list(line, k / 4, k, seed, parents);
+    }
+    if line == ANY {
+        return any_at(k, parents);
+    }
+    if line == GROWN {
+        return grown_at(k, seed, parents);
+    }
+    kind_list(k % 7, k / 7, k, seed, parents)
+}
+
+// The lengths of a line's case: table and space have up to three words to spare, or are too short.
+fn lengths(line: usize, n: usize, seed: usize) -> Case {
     let spare = pick(seed, 4);
     let table = add(table_words(n), spare);
     let space = add(times(n, 6), spare);
-    if line == STRAY {
-        stray(n, seed, parents);
-    }
-    if line == TOPS {
-        tops(n, seed, parents);
-    }
-    if line == TOPLESS {
-        topless(n, seed, parents);
-    }
-    if line == LOOP {
-        looped(n, seed, parents);
-    }
+    let missing = add(pick(seed, n), 1);
     if line == EMPTY {
         return Case { n: 0, table, space };
     }
     if line == TABLE {
-        let short = less(table_words(n), add(pick(seed, n), 1));
         return Case {
             n,
-            table: short,
+            table: less(table_words(n), missing),
             space: less(space, pick(next(seed), 3)),
         };
     }
@@ -146,8 +133,18 @@ pub fn case_at(line: usize, k: usize, parents: &mut [u32]) -> Case {
         return Case {
             n,
             table,
-            space: less(times(n, 6), add(pick(seed, n), 1)),
+            space: less(times(n, 6), missing),
         };
     }
     Case { n, table, space }
+}
+
+// The k-th case of a line, with its list in `parents`.
+pub fn case_at(line: usize, k: usize, parents: &mut [u32]) -> Case {
+    let seed = next(next(add(k, times(10000, line))));
+    let n = list_at(line, k, seed, parents);
+    if STRAY <= line {
+        damage(less(line, STRAY), n, seed, parents);
+    }
+    lengths(line, n, seed)
 }

@@ -23,19 +23,21 @@ fn any_count(n: usize) -> usize {
     power(add(n, 2), n)
 }
 
+fn word(n: usize, digit: usize) -> usize {
+    if n < digit {
+        return TOP;
+    }
+    digit
+}
+
 // One of them: its words are the digits of a number in base n + 2, the lowest first, with n + 1 for the top mark.
 pub fn any_list(n: usize, code: usize, parents: &mut [u32]) {
     let base = add(n, 2);
     let mut rest = code;
     let mut i = 0;
     while i < n {
-        let digit = remainder(rest, base);
+        put(parents, i, word(n, remainder(rest, base)));
         rest = quotient(rest, base);
-        if n < digit {
-            put(parents, i, TOP);
-        } else {
-            put(parents, i, digit);
-        }
         i += 1;
     }
 }

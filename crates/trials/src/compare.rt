@@ -1,6 +1,6 @@
 // One call of preparing, against what it is to answer and to leave.
 use crate::laid::lay;
-use crate::verdict::verdict;
+use crate::verdict::judge;
 use crate::words::add;
 use crate::words::clear;
 use crate::words::fill;
@@ -39,6 +39,37 @@ fn prepared(
     Reply { number: 0, name: 0 }
 }
 
+// What the table is to hold after an answer, in so many cells.
+fn table_after(
+    parents: &[u32],
+    n: usize,
+    cells: usize,
+    number: usize,
+    book: &mut [u32],
+    want: &mut [u32],
+) {
+    fill(want, cells);
+    if number == 0 {
+        lay(parents, n, book, want);
+    }
+}
+
+// What the space is to hold after an answer, in so many words.
+fn space_after(n: usize, words: usize, number: usize, want: &mut [u32]) {
+    fill(want, words);
+    if touched(number) {
+        clear(want, times(n, 6));
+    }
+}
+
+// Whether an answer leaves zeros in the space.
+fn touched(number: usize) -> bool {
+    if number == 0 {
+        return true;
+    }
+    3 < number
+}
+
 // How much differs after a call with so many words of the table and of the space. Both are compared for 16 words beyond.
 pub fn trial(
     parents: &[u32],
@@ -52,22 +83,13 @@ pub fn trial(
 ) -> usize {
     let cells = add(t, 16);
     let words = add(s, 16);
-    let v = verdict(parents, n, t, s);
+    let v = judge(parents, n, t, s);
     fill(table, cells);
     fill(space, words);
     let reply = prepared(parents, n, table, t, space, s);
-    let mut faults = add(differ(reply.number, v.number), differ(reply.name, v.name));
-    fill(want, cells);
-    if v.number == 0 {
-        lay(parents, n, book, want);
-    }
-    faults = add(faults, differences(table, want, cells));
-    fill(want, words);
-    if v.number == 0 {
-        clear(want, times(n, 6));
-    }
-    if 3 < v.number {
-        clear(want, times(n, 6));
-    }
-    add(faults, differences(space, want, words))
+    let said = add(differ(reply.number, v.number), differ(reply.name, v.name));
+    table_after(parents, n, cells, v.number, book, want);
+    let laid = differences(table, want, cells);
+    space_after(n, words, v.number, want);
+    add(add(said, laid), differences(space, want, words))
 }

@@ -20,33 +20,48 @@ fn stray_word(n: usize, seed: usize) -> usize {
     add(n, pick(seed, 1000000))
 }
 
-// One or two stray words, and sometimes a second top mark.
-pub fn stray(n: usize, seed: usize, parents: &mut [u32]) {
-    let other = next(seed);
-    if pick(other, 2) == 0 {
-        put(parents, pick(next(other), n), TOP);
+fn second_top(n: usize, seed: usize, parents: &mut [u32]) {
+    if pick(seed, 2) == 0 {
+        put(parents, pick(next(seed), n), TOP);
     }
+}
+
+// One or two stray words, and sometimes a second top mark.
+fn stray(n: usize, seed: usize, parents: &mut [u32]) {
+    let other = next(seed);
+    second_top(n, other, parents);
     put(parents, pick(seed, n), stray_word(n, other));
     put(parents, pick(other, n), stray_word(n, seed));
 }
 
 // Up to two top marks more.
-pub fn tops(n: usize, seed: usize, parents: &mut [u32]) {
+fn tops(n: usize, seed: usize, parents: &mut [u32]) {
     let other = next(seed);
     put(parents, pick(seed, n), TOP);
     put(parents, pick(other, n), TOP);
 }
 
 // No top mark: the top's word is an entry.
-pub fn topless(n: usize, seed: usize, parents: &mut [u32]) {
+fn topless(n: usize, seed: usize, parents: &mut [u32]) {
     let v = pick(seed, n);
     let top = above(parents, v, climbs(parents, n, v));
     put(parents, top, pick(next(seed), n));
 }
 
 // A loop: an entry gets itself or one below it as its parent. What was below it hangs below the loop.
-pub fn looped(n: usize, seed: usize, parents: &mut [u32]) {
+fn looped(n: usize, seed: usize, parents: &mut [u32]) {
     let v = pick(seed, n);
     let u = above(parents, v, pick(next(seed), climbs(parents, n, v)));
     put(parents, u, v);
+}
+
+// A fault of one of four kinds; none for another number.
+pub fn damage(fault: usize, n: usize, seed: usize, parents: &mut [u32]) {
+    match fault {
+        0 => stray(n, seed, parents),
+        1 => tops(n, seed, parents),
+        2 => topless(n, seed, parents),
+        3 => looped(n, seed, parents),
+        _ => {}
+    }
 }

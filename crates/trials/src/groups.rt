@@ -53,17 +53,32 @@ fn jump_entry(parents: &[u32], book: &[u32], n: usize, v: usize) -> bool {
     !large_child(parents, book, n, v)
 }
 
+// Notes v as the next root, if it is one. Answers how many there are.
+fn note_root(parents: &[u32], book: &mut [u32], v: usize, count: usize) -> usize {
+    if group_root(parents, book, v) {
+        write(book, ROOTS, count, v);
+        return add(count, 1);
+    }
+    count
+}
+
 // The roots of the groups, in preorder. Answers how many.
 pub fn list_roots(parents: &[u32], n: usize, book: &mut [u32]) -> usize {
     let mut count = 0;
     let mut i = 0;
     while i < n {
         let v = read(book, ORDER, i);
-        if group_root(parents, book, v) {
-            write(book, ROOTS, count, v);
-            count = add(count, 1);
-        }
+        count = note_root(parents, book, v, count);
         i += 1;
+    }
+    count
+}
+
+// Notes v as the next jump entry, if it is one. Answers how many there are.
+fn note_jump(parents: &[u32], book: &mut [u32], n: usize, v: usize, count: usize) -> usize {
+    if jump_entry(parents, book, n, v) {
+        write(book, JUMPS, count, v);
+        return add(count, 1);
     }
     count
 }
@@ -74,10 +89,7 @@ pub fn list_jumps(parents: &[u32], n: usize, book: &mut [u32]) -> usize {
     let mut i = 0;
     while i < n {
         let v = read(book, ORDER, i);
-        if jump_entry(parents, book, n, v) {
-            write(book, JUMPS, count, v);
-            count = add(count, 1);
-        }
+        count = note_jump(parents, book, n, v, count);
         i += 1;
     }
     count
@@ -149,6 +161,14 @@ pub fn lay_groups(parents: &[u32], book: &[u32], n: usize, groups: usize, want: 
     }
 }
 
+// The ancestor so far above v, of such a depth, or 0.
+fn reached(parents: &[u32], v: usize, deep: usize, far: usize) -> usize {
+    if deep < far {
+        return 0;
+    }
+    above(parents, v, far)
+}
+
 // A jump entry's record, from a cell on.
 fn record(parents: &[u32], book: &[u32], v: usize, at: usize, want: &mut [u32]) {
     let deep = read(book, DEPTH, v);
@@ -156,9 +176,7 @@ fn record(parents: &[u32], book: &[u32], v: usize, at: usize, want: &mut [u32]) 
     let mut far = 1;
     let mut e = 0;
     while e < 20 {
-        if far <= deep {
-            put(want, add(add(at, 1), e), above(parents, v, far));
-        }
+        put(want, add(add(at, 1), e), reached(parents, v, deep, far));
         far = add(far, far);
         e += 1;
     }

@@ -9,6 +9,7 @@ use crate::groups::lay_groups;
 use crate::groups::lay_jumps;
 use crate::groups::list_jumps;
 use crate::groups::list_roots;
+use crate::paths::count_paths;
 use crate::paths::ladders;
 use crate::plain::keep;
 use crate::words::add;
@@ -36,11 +37,11 @@ pub fn lay(parents: &[u32], n: usize, book: &mut [u32], want: &mut [u32]) {
     section(book, ORDER, n, start(3, n), want);
     section(book, PRE, n, start(4, n), want);
     section(book, SIZE, n, start(5, n), want);
-    let paths = ladders(parents, book, n, want);
+    ladders(parents, book, n, want);
     lay_groups(parents, book, n, groups, want);
     lay_jumps(parents, book, n, jumps, want);
     put(want, 0, n);
     put(want, 1, jumps);
     put(want, 2, groups);
-    put(want, 3, paths);
+    put(want, 3, count_paths(parents, book, n));
 }

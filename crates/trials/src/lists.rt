@@ -41,7 +41,7 @@ fn parent(kind: usize, i: usize, n: usize, seed: usize) -> usize {
         return pick(seed, i);
     }
     if kind == CATERPILLAR {
-        return less(last, (i + 1) % 2);
+        return less(last, add(i, 1) % 2);
     }
     if kind == BINARY {
         return last / 2;
@@ -92,16 +92,19 @@ fn shuffle(n: usize, seed: usize, names: &mut [u32]) {
     }
 }
 
+// The name of an entry; the top mark stays.
+fn named(names: &[u32], p: usize) -> usize {
+    if p == TOP {
+        return TOP;
+    }
+    get(names, p)
+}
+
 // A list with each entry i called names[i].
 fn rename(n: usize, parents: &[u32], names: &[u32], renamed: &mut [u32]) {
     let mut i = 0;
     while i < n {
-        let p = get(parents, i);
-        if p == TOP {
-            put(renamed, get(names, i), TOP);
-        } else {
-            put(renamed, get(names, i), get(names, p));
-        }
+        put(renamed, get(names, i), named(names, get(parents, i)));
         i += 1;
     }
 }

@@ -50,7 +50,7 @@ fn path(book: &[u32], n: usize, v: usize, index: usize, want: &mut [u32]) {
     }
 }
 
-// The ladder of the path from v, from an index of LADDERS on. Answers the index behind it.
+// The ladder of the path from v, if one starts there, from an index of LADDERS on. Answers the index behind it.
 fn ladder(
     parents: &[u32],
     book: &[u32],
@@ -59,6 +59,9 @@ fn ladder(
     index: usize,
     want: &mut [u32],
 ) -> usize {
+    if !path_top(parents, book, v) {
+        return index;
+    }
     let height = read(book, HEIGHT, v);
     let count = least(height, read(book, DEPTH, v));
     ancestors(parents, v, count, add(start(6, n), index), want);
@@ -67,18 +70,24 @@ fn ladder(
     add(own, height)
 }
 
-// Every ladder, in preorder of the paths' tops. Answers the number of paths.
-pub fn ladders(parents: &[u32], book: &[u32], n: usize, want: &mut [u32]) -> usize {
-    let mut paths = 0;
+// Every ladder, in preorder of the paths' tops.
+pub fn ladders(parents: &[u32], book: &[u32], n: usize, want: &mut [u32]) {
     let mut index = 0;
     let mut i = 0;
     while i < n {
-        let v = read(book, ORDER, i);
-        if path_top(parents, book, v) {
-            index = ladder(parents, book, n, v, index, want);
-            paths = add(paths, 1);
-        }
+        index = ladder(parents, book, n, read(book, ORDER, i), index, want);
         i += 1;
     }
-    paths
+}
+
+pub fn count_paths(parents: &[u32], book: &[u32], n: usize) -> usize {
+    let mut count = 0;
+    let mut v = 0;
+    while v < n {
+        if path_top(parents, book, v) {
+            count = add(count, 1);
+        }
+        v += 1;
+    }
+    count
 }

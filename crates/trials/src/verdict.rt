@@ -78,7 +78,7 @@ fn list_verdict(parents: &[u32], n: usize) -> Verdict {
 }
 
 // The answer to a list of n words with a table and a space of so many words.
-pub fn verdict(parents: &[u32], n: usize, table: usize, space: usize) -> Verdict {
+pub fn judge(parents: &[u32], n: usize, table: usize, space: usize) -> Verdict {
     if n == 0 {
         return Verdict { number: 1, name: 0 };
     }
