@@ -3,6 +3,7 @@ use crate::codings::any_coded;
 use crate::codings::any_list;
 use crate::codings::grown_coded;
 use crate::codings::grown_list;
+use crate::damage::NONE;
 use crate::damage::damage;
 use crate::lists::make;
 use crate::lists::permute;
@@ -139,12 +140,18 @@ fn lengths(line: usize, n: usize, seed: usize) -> Case {
     Case { n, table, space }
 }
 
+// The fault of a line's lists, for `damage`.
+fn fault_at(line: usize) -> usize {
+    if line < STRAY {
+        return NONE;
+    }
+    less(line, STRAY)
+}
+
 // The k-th case of a line, with its list in `parents`.
 pub fn case_at(line: usize, k: usize, parents: &mut [u32]) -> Case {
     let seed = next(next(add(k, times(10000, line))));
     let n = list_at(line, k, seed, parents);
-    if STRAY <= line {
-        damage(less(line, STRAY), n, seed, parents);
-    }
+    damage(fault_at(line), n, seed, parents);
     lengths(line, n, seed)
 }

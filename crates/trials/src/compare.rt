@@ -27,7 +27,7 @@ fn differences(a: &[u32], b: &[u32], n: usize) -> usize {
     count
 }
 
-// The call: the first n words of the list, with so many words of the table and of the space.
+// The call, with the first n words of the list and so many words of the table and of the space.
 fn prepared(
     parents: &[u32],
     n: usize,
@@ -36,6 +36,8 @@ fn prepared(
     space: &mut [u32],
     s: usize,
 ) -> Reply {
+    fill(table, add(t, 16));
+    fill(space, add(s, 16));
     Reply { number: 0, name: 0 }
 }
 
@@ -83,10 +85,8 @@ pub fn trial(
 ) -> usize {
     let cells = add(t, 16);
     let words = add(s, 16);
-    let v = judge(parents, n, t, s);
-    fill(table, cells);
-    fill(space, words);
     let reply = prepared(parents, n, table, t, space, s);
+    let v = judge(parents, n, t, s);
     let said = add(differ(reply.number, v.number), differ(reply.name, v.name));
     table_after(parents, n, cells, v.number, book, want);
     let laid = differences(table, want, cells);

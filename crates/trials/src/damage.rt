@@ -55,7 +55,9 @@ fn looped(n: usize, seed: usize, parents: &mut [u32]) {
     put(parents, u, v);
 }
 
-// A fault of one of four kinds; none for another number.
+pub const NONE: usize = 4;
+
+// A fault of one of four kinds, or none.
 pub fn damage(fault: usize, n: usize, seed: usize, parents: &mut [u32]) {
     match fault {
         0 => stray(n, seed, parents),

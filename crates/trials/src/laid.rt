@@ -27,21 +27,35 @@ fn section(book: &[u32], part: usize, n: usize, at: usize, want: &mut [u32]) {
     }
 }
 
+// The sections that hold what the book has.
+fn sections(book: &[u32], n: usize, want: &mut [u32]) {
+    section(book, DEPTH, n, start(0, n), want);
+    section(book, ORDER, n, start(3, n), want);
+    section(book, PRE, n, start(4, n), want);
+    section(book, SIZE, n, start(5, n), want);
+}
+
+// The other sections.
+fn others(parents: &[u32], book: &[u32], n: usize, groups: usize, jumps: usize, want: &mut [u32]) {
+    kinds(book, n, groups, jumps, want);
+    ladders(parents, book, n, want);
+    lay_groups(parents, book, n, groups, want);
+    lay_jumps(parents, book, n, jumps, want);
+}
+
+fn header(n: usize, jumps: usize, groups: usize, paths: usize, want: &mut [u32]) {
+    put(want, 0, n);
+    put(want, 1, jumps);
+    put(want, 2, groups);
+    put(want, 3, paths);
+}
+
 pub fn lay(parents: &[u32], n: usize, book: &mut [u32], want: &mut [u32]) {
     keep(parents, n, book);
     let groups = list_roots(parents, n, book);
     let jumps = list_jumps(parents, n, book);
     clear(want, table_words(n));
-    section(book, DEPTH, n, start(0, n), want);
-    kinds(book, n, groups, jumps, want);
-    section(book, ORDER, n, start(3, n), want);
-    section(book, PRE, n, start(4, n), want);
-    section(book, SIZE, n, start(5, n), want);
-    ladders(parents, book, n, want);
-    lay_groups(parents, book, n, groups, want);
-    lay_jumps(parents, book, n, jumps, want);
-    put(want, 0, n);
-    put(want, 1, jumps);
-    put(want, 2, groups);
-    put(want, 3, count_paths(parents, book, n));
+    sections(book, n, want);
+    others(parents, book, n, groups, jumps, want);
+    header(n, jumps, groups, count_paths(parents, book, n), want);
 }
