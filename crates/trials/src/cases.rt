@@ -16,7 +16,7 @@ use crate::words::times;
 
 pub const LINES: usize = 16;
 
-// the kinds come first, then four lines of lists with a fault, then lists with wrong lengths, then all small lists
+// The kinds come first, then a line for each fault, then lengths that are too short, then all small lists.
 const STRAY: usize = 7;
 
 const EMPTY: usize = 11;
@@ -140,18 +140,24 @@ fn lengths(line: usize, n: usize, seed: usize) -> Case {
     Case { n, table, space }
 }
 
-// The fault of a line's lists, for `damage`.
-fn fault_at(line: usize) -> usize {
+// The fault of a line's k-th list, for `damage`. Where a length is too short, the fault is not to be seen.
+fn fault_at(line: usize, k: usize) -> usize {
     if line < STRAY {
         return NONE;
     }
-    less(line, STRAY)
+    if line < EMPTY {
+        return less(line, STRAY);
+    }
+    if line < ANY {
+        return k % 5;
+    }
+    NONE
 }
 
 // The k-th case of a line, with its list in `parents`.
 pub fn case_at(line: usize, k: usize, parents: &mut [u32]) -> Case {
     let seed = next(next(add(k, times(10000, line))));
     let n = list_at(line, k, seed, parents);
-    damage(fault_at(line), n, seed, parents);
+    damage(fault_at(line, k), n, seed, parents);
     lengths(line, n, seed)
 }

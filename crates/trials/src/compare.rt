@@ -6,6 +6,7 @@ use crate::words::clear;
 use crate::words::fill;
 use crate::words::get;
 use crate::words::times;
+use crate::words::wide;
 
 struct Reply {
     number: usize,
@@ -38,7 +39,21 @@ fn prepared(
 ) -> Reply {
     fill(table, add(t, 16));
     fill(space, add(s, 16));
-    Reply { number: 0, name: 0 }
+    if n <= parents.len() {
+        if t <= table.len() {
+            if s <= space.len() {
+                let r = prepare::prepare(&parents[..n], &mut table[..t], &mut space[..s]);
+                return Reply {
+                    number: wide(r.number),
+                    name: wide(r.word),
+                };
+            }
+        }
+    }
+    Reply {
+        number: 99,
+        name: 0,
+    }
 }
 
 // What the table is to hold after an answer, in so many cells.

@@ -8,6 +8,8 @@ use crate::words::add;
 use crate::words::less;
 use crate::words::put;
 
+pub const NONE: usize = 4;
+
 // A word that is neither an entry nor the top mark: n, the highest such word, or one between.
 fn stray_word(n: usize, seed: usize) -> usize {
     let which = pick(seed, 3);
@@ -54,8 +56,6 @@ fn looped(n: usize, seed: usize, parents: &mut [u32]) {
     let u = above(parents, v, pick(next(seed), climbs(parents, n, v)));
     put(parents, u, v);
 }
-
-pub const NONE: usize = 4;
 
 // A fault of one of four kinds, or none.
 pub fn damage(fault: usize, n: usize, seed: usize, parents: &mut [u32]) {

@@ -1,7 +1,7 @@
 // Words read and written with a test in place of a proof, and sums that wrap: a slip here shows as a difference, never as a fault of the program.
 pub const TOP: usize = 4294967295;
 
-fn wide(x: u32) -> usize {
+pub fn wide(x: u32) -> usize {
     x as usize
 }
 
@@ -81,14 +81,10 @@ pub fn clear(a: &mut [u32], n: usize) {
 }
 
 // What the first n words hold before a trial: no two alike, and none a likely answer.
-pub fn filler(i: usize) -> usize {
-    add(3000000000, i % 65536)
-}
-
 pub fn fill(a: &mut [u32], n: usize) {
     let mut i = 0;
     while i < n {
-        put(a, i, filler(i));
+        put(a, i, add(3000000000, i));
         i += 1;
     }
 }
