@@ -1,11 +1,12 @@
 -- A part of a list replaced by other words: what stands there, before it and behind it. Assumes nothing.
 use mathlib.Core.Path.{_≡_, refl, sym, ap, _∙_}
-use mathlib.Core.List.{List, _++_, append-assoc}
+use mathlib.Core.List.{List, [], _++_, append-assoc}
 use Prim.Native.Nat.{ℕ, _+_, _-_, _≤_}
 use native.Mathlib.Omega.{arith}
+use native.Mathlib.Decide.{decLe}
 use borrow.Rule.Slice.PartMut.{midOf, putMid, post-is}
-use lib.ListN.{length, take, drop, length-append, length-take, length-drop, take-append-drop}
-use lib.Seq.{drop-append-le, drop-append-seam, drop-at, drop-drop, take-at, take-add, take-all}
+use lib.ListN.{length, take, drop, length-append, length-take, length-drop, take-append-drop, drop-of-length-le}
+use lib.Seq.{drop-append-le, drop-at, drop-drop, length-take-le, take-at, take-add, take-all, take-nil, take-take}
 use Rattle.base.specs.Lists.{view, put}
 use Rattle.base.proofs.Views.{view-back, view-other}
 
@@ -49,6 +50,39 @@ module _ (l : List ℕ) (a : ℕ) (x : List ℕ) (room : a + length x ≤ length
   unfolding put
   put-again y e = rw (e) (ap (λ r. take a (put l a x) ++ (y ++ r)) put-drop ∙ ap (λ r. r ++ (y ++ drop (a + length x) l)) (take-at (take a l) (x ++ drop (a + length x) l) a (simp length-take (omega arith))))
 
+pub put-none : (l : List ℕ) (a : ℕ) → put l a [] ≡ l
+unfolding put
+put-none l a = let z : a + 0 ≡ a = omega arith in ap (λ k. take a l ++ drop k l) z ∙ take-append-drop a l
+
+-- words put behind those that were put
+pub put-more : (l : List ℕ) (a b : ℕ) (x y : List ℕ) → a + length x ≡ b → b + length y ≤ length l → put (put l a x) b y ≡ put l a (x ++ y)
+unfolding put
+put-more l a b x y e h =
+    let room : a + length x ≤ length l = omega arith in
+    let front : take b (put l a x) ≡ take a l ++ x
+    = ap (take b) (sym (append-assoc (take a l) x (drop (a + length x) l))) ∙ take-at (take a l ++ x) _ b (simp (length-append, length-take) (omega arith)) in
+    let z : b + length y ≡ (a + length x) + length y = omega arith in
+    let w : (a + length x) + length y ≡ a + length (x ++ y) = omega (arith, length-append x y) in
+    let back : drop (b + length y) (put l a x) ≡ drop (a + length (x ++ y)) l
+    = ap (λ k. drop k (put l a x)) z ∙ sym (drop-drop (length y) (a + length x) (put l a x)) ∙ ap (drop (length y)) (put-drop l a x room) ∙ drop-drop (length y) (a + length x) l ∙ ap (λ k. drop k l) w in
+    ap (λ f. f ++ (y ++ drop (b + length y) (put l a x))) front
+    ∙ ap (λ r. (take a l ++ x) ++ (y ++ r)) back
+    ∙ append-assoc (take a l) x (y ++ drop (a + length (x ++ y)) l)
+    ∙ ap (λ r. take a l ++ r) (sym (append-assoc x y (drop (a + length (x ++ y)) l)))
+
+-- words put over the front of others
+pub put-over : (l : List ℕ) (a : ℕ) (x y : List ℕ) → a + length y ≤ length l → length x ≤ length y → put (put l a y) a x ≡ put l a (x ++ drop (length x) y)
+unfolding put
+put-over l a x y h k =
+    let front : take a (put l a y) ≡ take a l = take-at (take a l) (y ++ drop (a + length y) l) a (simp length-take (omega arith)) in
+    let split : drop (a + length x) (put l a y) ≡ drop (length x) (y ++ drop (a + length y) l)
+    = sym (drop-drop (length x) a (put l a y)) ∙ ap (drop (length x)) (drop-at (take a l) _ a (simp length-take (omega arith))) in
+    let whole : a + length (x ++ drop (length x) y) ≡ a + length y = omega (arith, length-append x (drop (length x) y), length-drop (length x) y) in
+    ap (λ f. f ++ (x ++ drop (a + length x) (put l a y))) front
+    ∙ ap (λ r. take a l ++ (x ++ r)) (split ∙ drop-append-le (length x) y _ k)
+    ∙ ap (λ r. take a l ++ r) (sym (append-assoc x (drop (length x) y) (drop (a + length y) l)))
+    ∙ ap (λ m. take a l ++ ((x ++ drop (length x) y) ++ drop m l)) (sym whole)
+
 -- parts that lie side by side
 pub view-join : (a c d : ℕ) (l : List ℕ) → view a (c + d) l ≡ view a c l ++ view (a + c) d l
 unfolding view
@@ -57,3 +91,20 @@ view-join a c d l = take-add c d (drop a l) ∙ ap (λ r. take c (drop a l) ++ t
 pub view-all : (c : ℕ) (l : List ℕ) → length l ≡ c → view 0 c l ≡ l
 unfolding view
 view-all c l e = take-all c l (omega arith)
+
+-- a part of a part, and so a part of the words that were put
+view-view : (a k b c : ℕ) (l : List ℕ) → b + c ≤ k → view b c (view a k l) ≡ view (a + b) c l
+unfolding view
+view-view a k b c l h =
+    let z : b + (k - b) ≡ k = omega arith in
+    let e : drop b (take k (drop a l)) ≡ take (k - b) (drop b (drop a l)) = go (drop a l) (decLe b (length (drop a l))) z in
+    ap (take c) e ∙ take-take c (k - b) (drop b (drop a l)) (omega arith) ∙ ap (take c) (drop-drop b a l)
+  where
+    go : (m : List ℕ) → Dec (b ≤ length m) → b + (k - b) ≡ k → drop b (take k m) ≡ take (k - b) (drop b m)
+    go m (yes g) z = ap (λ j. drop b (take j m)) (sym z) ∙ ap (drop b) (take-add b (k - b) m) ∙ drop-at (take b m) _ b (length-take-le b m g)
+    go m (no g) z =
+        drop-of-length-le (take k m) {i = b} (simp length-take (omega arith))
+        ∙ sym (ap (take (k - b)) (drop-of-length-le m {i = b} (omega arith)) ∙ take-nil (k - b))
+
+pub put-inside : (l : List ℕ) (a : ℕ) (x : List ℕ) → a + length x ≤ length l → (b c : ℕ) → b + c ≤ length x → view (a + b) c (put l a x) ≡ view b c x
+put-inside l a x room b c h = sym (view-view a (length x) b c (put l a x) h) ∙ ap (view b c) (put-view l a x room (length x) refl)

@@ -18,7 +18,7 @@ module _ (L : ℕ) (ps : List ℕ) where
   unfolding groupWords
   group-wide r = refl
 
-  jump-wide : (j : ℕ) → length (jumpRecord ps j) ≡ 21
+  pub jump-wide : (j : ℕ) → length (jumpRecord ps j) ≡ 21
   unfolding jumpRecord
   jump-wide j = ap suc (each-length 20 0 (λ e. Option·getD (up ps (2 ^ e) j) 0))
 

@@ -35,13 +35,13 @@ drop-map f zero l = refl
 drop-map f (suc i) [] = refl
 drop-map f (suc i) (x ∷ l) = drop-map f i l
 
-drop-zeros : (n m : ℕ) → drop {A = ℕ} n (replicate m 0) ≡ replicate (m - n) 0
+pub drop-zeros : (n m : ℕ) → drop {A = ℕ} n (replicate m 0) ≡ replicate (m - n) 0
 drop-zeros zero m = let e : m ≡ m - 0 = omega arith in ap (λ k. replicate {A = ℕ} k 0) e
 drop-zeros (suc n) zero = let e : 0 ≡ 0 - suc n = omega arith in ap (λ k. replicate {A = ℕ} k 0) e
 drop-zeros (suc n) (suc m) = let e : m - n ≡ suc m - suc n = omega arith in drop-zeros n m ∙ ap (λ k. replicate {A = ℕ} k 0) e
 
 -- one list more, laid behind the others
-rows-more : (f : ℕ → List ℕ) (l : List ℕ) (x : ℕ) → flatMap f (l ++ (x ∷ [])) ≡ flatMap f l ++ f x
+pub rows-more : (f : ℕ → List ℕ) (l : List ℕ) (x : ℕ) → flatMap f (l ++ (x ∷ [])) ≡ flatMap f l ++ f x
 unfolding flatMap
 rows-more f [] x = append-nil (f x)
 rows-more f (y ∷ l) x = ap (λ m. f y ++ m) (rows-more f l x) ∙ sym (append-assoc (f y) (flatMap f l) (f x))

@@ -33,10 +33,6 @@ back-more f n i at x cells b h e r k l m = go (ℕ-discrete k at)
     go (yes q) = rw q (getD-set-same cells at x 0 h ∙ e)
     go (no q) = getD-set-other cells at k x 0 q ∙ r k (omega arith) m
 
--- a store before them leaves them
-pub back-same : (f : ℕ → ℕ) (n i at x : ℕ) (cells : List ℕ) → at < i → Back f n i cells → Back f n i (set cells at x)
-back-same f n i at x cells b r k l m = getD-set-other cells at k x 0 (λ q. omega arith) ∙ r k l m
-
 -- once all of them are written, an array by position is the map of its function over the preorder
 pub back-all : (ps : List ℕ) → length ps ≤ mostEntries → Tree ps → (f : ℕ → ℕ) (cells : List ℕ)
     → length cells ≡ length ps → Back (λ k. f (getD (order ps) k 0)) (length ps) 0 cells → cells ≡ map f (order ps)
@@ -45,7 +41,7 @@ back-all ps few tree f cells n r =
     ext-getD 0 cells (map f (order ps)) (omega arith) (λ k b.
     r k (omega arith) (omega arith) ∙ sym (array-at ps few tree f k (omega arith)))
 
--- the position above the entry at `at` is a climb's from the entry at `over`
+-- what is above the entry at one position is an ancestor of the entry at another
 pub record Nearing (ps : List ℕ) (at over : ℕ) : Type 0 where
   pub upper : ℕ
   pub parent-is : parent ps (entryAt ps at) ≡ some upper

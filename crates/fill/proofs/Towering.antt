@@ -125,7 +125,7 @@ module _ (ps sizes : List ℕ) (s : Sizes ps sizes) where
 
       -- before it stands a child
       module _ (b : next < at + getD sizes at 0) where
-        pub walk-inside : next < length sizes
+        walk-inside : next < length sizes
         walk-inside = omega (arith, span-room)
 
         next-child : Next ps next (w .rest)

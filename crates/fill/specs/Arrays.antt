@@ -1,16 +1,17 @@
 -- Arrays by preorder position, and the sections that a pass over them leaves. Assumes nothing.
 use mathlib.Core.Path.{_≡_}
-use mathlib.Core.List.{List, map, flatten, flatMap}
+use mathlib.Core.List.{List, map, flatten}
 use mathlib.Core.Option.{some, Option·elim}
-use Prim.Native.Nat.{ℕ, _+_, _*_, _-_, _≤_, _<_}
+use Prim.Native.Nat.{ℕ, _+_, _-_, _≤_, _<_}
 use lib.ListN.{length, getD, take}
 use Rattle.base.specs.Limits.{mostEntries, groupLimit}
-use Rattle.base.specs.Lists.{below, padded, view}
+use Rattle.base.specs.Lists.{below, view}
 use Rattle.tree.specs.Parents.{topMark, parent, up, depth}
 use Rattle.tree.specs.Forest.{size, height, order, position, longChild}
 use Rattle.tree.specs.Faults.{Tree}
 use Rattle.table.specs.Ladders.{pathTops, ladders, ladPos}
-use Rattle.table.specs.Groups.{groupRoots, groupWords, jumpNodes, kind}
+use Rattle.table.specs.Groups.{groupRoots, jumpNodes, kind}
+use Rattle.table.specs.Table.{ladderCells, groupCells}
 
 -- words that are all below the length of a section, one for each of its cells
 pub record Indexes (order cells : List ℕ) : Type 0 where
@@ -107,7 +108,7 @@ pub record Rungs (ps ord places deep high long above : List ℕ) : Type 0 where
 
 -- LADDERS
 unfoldable pub Laddered : List ℕ → List ℕ → Type 0
-Laddered ps cells = cells ≡ padded (2 * length ps) (flatten (ladders ps))
+Laddered ps cells = cells ≡ ladderCells ps
 
 -- what GROUPS is laid from
 pub record Members (ps ord deep sizes above : List ℕ) : Type 0 where
@@ -117,7 +118,7 @@ pub record Members (ps ord deep sizes above : List ℕ) : Type 0 where
 
 -- GROUPS
 unfoldable pub Grouped : List ℕ → List ℕ → Type 0
-Grouped ps cells = cells ≡ padded (3 * length ps) (flatMap (groupWords groupLimit ps) (groupRoots groupLimit ps))
+Grouped ps cells = cells ≡ groupCells ps
 
 -- ORDER and KIND of a list that forms one tree
 pub record Jumping (ps ord kinds : List ℕ) : Type 0 where
@@ -135,4 +136,4 @@ pub record Reaching (ps places rungs : List ℕ) : Type 0 where
   pub few : length ps ≤ mostEntries
   pub tree : Tree ps
   pub places-are : places ≡ below (length ps) (ladPos ps)
-  pub rungs-are : rungs ≡ padded (2 * length ps) (flatten (ladders ps))
+  pub rungs-are : rungs ≡ ladderCells ps

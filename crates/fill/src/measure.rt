@@ -66,11 +66,11 @@ fn tallest(sizes: &[u32], high: &[u32], at: Position) -> Position
     requires { ⌜ ((ps : List ℕ) × Sizes ps (now sizes) × ((k : ℕ) → at .0 < k → k < length (now sizes) → getD (now high) k 0 ≡ height ps (entryAt ps k))) × (at .0 < length (now sizes)) × (length (now sizes) ≤ length (now high)) ⌝ }
     ensures { λ r. ⌜ ((ps : List ℕ) → Sizes ps (now (sizes .entry)) → ((k : ℕ) → at .0 < k → k < length (now (sizes .entry)) → getD (now (high .entry)) k 0 ≡ height ps (entryAt ps k)) → r .0 ≡ longPosition ps (entryAt ps (at .0))) ⌝ }
 {
-    let end = at.0 + sizes[at.0 as usize];
+    let end = Position(at.0 + sizes[at.0 as usize]);
     let mut best = Position(4294967295);
     let mut most: u32 = 0;
     let mut next = Position(at.0 + 1);
-    while next.0 < end {
+    while next.0 < end.0 {
         let here = next;
         next = Position(here.0 + sizes[here.0 as usize]);
         if most < high[here.0 as usize] {

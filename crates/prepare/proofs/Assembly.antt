@@ -1,19 +1,25 @@
 -- The sections of a table, put together. Assumes nothing.
 use mathlib.Core.Path.{_≡_, refl, sym, ap, _∙_}
 use mathlib.Core.Logic.{_⊎_, inl, inr, ⊎-elim}
-use mathlib.Core.List.{List, [], _∷_, _++_, map, flatMap}
+use mathlib.Core.List.{List, _++_, map}
 use Prim.Native.Nat.{ℕ, _+_, _*_, _≤_}
 use native.Mathlib.Omega.{arith}
 use lib.ListN.{length}
-use Rattle.base.specs.Lists.{below, padded, view, put}
-use Rattle.base.specs.Limits.{groupLimit, headerOf, jumpRoom, recordWords, tableWords}
+use Rattle.base.specs.Lists.{below, view, put}
+use Rattle.base.specs.Limits.{mostEntries, groupLimit, jumpRoom, recordWords, tableWords}
 use Rattle.base.proofs.Lists.{each-length}
+use Rattle.base.proofs.Joined.{padded-length}
 use Rattle.base.proofs.Puts.{put-length, put-view, put-before, put-behind, view-join, view-all}
 use Rattle.tree.specs.Parents.{depth}
-use Rattle.tree.specs.Forest.{order, position}
-use Rattle.table.specs.Ladders.{pathTops}
-use Rattle.table.specs.Groups.{groupRoots, jumpNodes, jumpRecord}
-use Rattle.table.specs.Table.{header, entrySections, laidSections, tableOf}
+use Rattle.tree.specs.Forest.{size, order, position}
+use Rattle.tree.specs.Faults.{Tree}
+use Rattle.table.specs.Ladders.{ladPos}
+use Rattle.table.specs.Groups.{kind}
+use Rattle.table.specs.Table.{header, entrySections, laidSections, ladderCells, groupCells, jumpCells, tableOf}
+use Rattle.climbs.proofs.Room.{ladders-fit}
+use Rattle.climbs.proofs.Groups.{groups-few}
+use Rattle.climbs.proofs.Words.{groups-length}
+use Rattle.fill.proofs.Laddering.{array-length}
 use Rattle.prepare.specs.Stages.{Familied, Laddered, Sectioned}
 
 -- c words from b on lie apart from k words from a on
@@ -110,6 +116,70 @@ module _ (ps : List ℕ) where
           pres = put-view t₂ (4 + n * 4) P b₂ n k;
         }
 
+module _ (ps t : List ℕ) (long : length t ≡ tableWords (length ps)) (few : length ps ≤ mostEntries) (tree : Tree ps) where
+  abbrev K : List ℕ
+  K = below (n ps) (kind groupLimit ps)
+
+  abbrev S : List ℕ
+  S = below (n ps) (size ps)
+
+  abbrev G : List ℕ
+  G = groupCells ps
+
+  abbrev L : List ℕ
+  L = below (n ps) (ladPos ps)
+
+  abbrev R : List ℕ
+  R = ladderCells ps
+
+  groups-wide : length G ≡ n ps * 3
+  groups-wide = padded-length (3 * n ps) _ (omega (arith, groups-length groupLimit ps, groups-few ps (omega arith) tree groupLimit)) ∙ omega arith
+
+  rungs-wide : length R ≡ n ps * 2
+  rungs-wide = padded-length (2 * n ps) _ (ladders-fit ps (omega arith) tree) ∙ omega arith
+
+  -- KIND, SIZE and GROUPS
+  pub familied : Familied ps (put (put (put t (4 + n ps) K) (4 + n ps * 5) S) (4 + n ps * 8) G)
+  familied =
+      let k = each-length (n ps) 0 (kind groupLimit ps) in
+      let s = each-length (n ps) 0 (size ps) in
+      let g = groups-wide in
+      let t₁ = put t (4 + n ps) K in
+      let t₂ = put t₁ (4 + n ps * 5) S in
+      let b₀ : 4 + n ps + length K ≤ length t = omega arith in
+      let long₁ = put-length t (4 + n ps) K b₀ in
+      let b₁ : 4 + n ps * 5 + length S ≤ length t₁ = omega arith in
+      let long₂ = put-length t₁ (4 + n ps * 5) S b₁ in
+      let b₂ : 4 + n ps * 8 + length G ≤ length t₂ = omega arith in
+      record {
+        kinds = stays t₂ (4 + n ps * 8) G b₂ (4 + n ps) (n ps) (inl (omega arith)) ∙ stays t₁ (4 + n ps * 5) S b₁ (4 + n ps) (n ps) (inl (omega arith)) ∙ put-view t (4 + n ps) K b₀ (n ps) k;
+        sizes = stays t₂ (4 + n ps * 8) G b₂ (4 + n ps * 5) (n ps) (inl (omega arith)) ∙ put-view t₁ (4 + n ps * 5) S b₁ (n ps) s;
+        groups = put-view t₂ (4 + n ps * 8) G b₂ (n ps * 3) g;
+      }
+
+  -- LADPOS and LADDERS beside them, with the sizes in the cells of DEPTH
+  pub laddered : Familied ps t → let t₃ = put (put (put t 4 (map (size ps) (order ps))) (4 + n ps * 2) L) (4 + n ps * 6) R in Familied ps t₃ × Laddered ps t₃
+  laddered f =
+      let X = map (size ps) (order ps) in
+      let x : length X ≡ n ps = array-length ps few tree (size ps) X refl in
+      let l = each-length (n ps) 0 (ladPos ps) in
+      let r = rungs-wide in
+      let t₁ = put t 4 X in
+      let t₂ = put t₁ (4 + n ps * 2) L in
+      let b₀ : 4 + length X ≤ length t = omega arith in
+      let long₁ = put-length t 4 X b₀ in
+      let b₁ : 4 + n ps * 2 + length L ≤ length t₁ = omega arith in
+      let long₂ = put-length t₁ (4 + n ps * 2) L b₁ in
+      let b₂ : 4 + n ps * 6 + length R ≤ length t₂ = omega arith in (
+        familied-put ps t₂ (4 + n ps * 6) R b₂ (inl (omega arith)) (inl (omega arith)) (inr (omega arith))
+            (familied-put ps t₁ (4 + n ps * 2) L b₁ (inl (omega arith)) (inr (omega arith)) (inr (omega arith))
+            (familied-put ps t 4 X b₀ (inr (omega arith)) (inr (omega arith)) (inr (omega arith)) f)),
+        record {
+          places = stays t₂ (4 + n ps * 6) R b₂ (4 + n ps * 2) (n ps) (inl (omega arith)) ∙ put-view t₁ (4 + n ps * 2) L b₁ (n ps) l;
+          rungs = put-view t₂ (4 + n ps * 6) R b₂ (n ps * 2) r;
+        },
+      )
+
 -- two parts side by side
 piece : (a b c d e : ℕ) (l x y : List ℕ) → a + c ≡ b → c + d ≡ e → view a c l ≡ x → view b d l ≡ y → view a e l ≡ x ++ y
 piece a b c d e l x y p q f g =
@@ -117,7 +187,7 @@ piece a b c d e l x y p q f g =
 
 module _ (ps t : List ℕ) (s : Sectioned ps t) (long : length t ≡ tableWords (length ps)) where
   -- the whole, once JUMPS and the header stand
-  pub whole-table : view (4 + n ps * 11) (recordWords * jumpRoom (n ps)) t ≡ padded (recordWords * jumpRoom (n ps)) (flatMap (jumpRecord ps) (jumpNodes groupLimit ps)) → view 0 4 t ≡ header ps → t ≡ tableOf ps
+  pub whole-table : view (4 + n ps * 11) (recordWords * jumpRoom (n ps)) t ≡ jumpCells ps → view 0 4 t ≡ header ps → t ≡ tableOf ps
   unfolding tableOf entrySections laidSections
   whole-table j h =
       let m = recordWords * jumpRoom (n ps) in

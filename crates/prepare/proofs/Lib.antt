@@ -5,4 +5,6 @@ pub mod Pending
 pub mod Searches
 pub mod Verdicts
 pub mod Staging
+pub mod Loading
 pub mod Assembly
+pub mod Recording

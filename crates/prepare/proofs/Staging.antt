@@ -12,7 +12,7 @@ use Rattle.tree.specs.Parents.{depth}
 use Rattle.tree.specs.Forest.{height, order}
 use Rattle.tree.specs.Faults.{Tree}
 use Rattle.table.specs.Ladders.{ladPos}
-use Rattle.fill.specs.Arrays.{Families, Paths, Runs, Rungs, Indexes, abovePosition, longPosition}
+use Rattle.fill.specs.Arrays.{Families, Members, Paths, Runs, Rungs, Indexes, abovePosition, longPosition}
 use Rattle.fill.proofs.Spreading.{order-indexes}
 use Rattle.fill.proofs.Laddering.{array-length}
 use Rattle.prepare.specs.Stages.{Walked, Measured, Raised, Placing}
@@ -121,4 +121,11 @@ module _ (ps space : List ℕ) (m : Measured ps space) where
     tree = m .walked .tree;
     sizes-are = lent (length ps * 2) (length ps * 3) (length ps) space _ (omega arith) (m .sizes);
     aboves = lent (length ps * 3) (length ps * 4) (length ps) space _ (omega arith) (m .aboves);
+  }
+
+  pub members-of : Members ps (midOf 0 (length ps - 0) space) (midOf (length ps) (length ps * 2 - length ps) space) (midOf (length ps * 2) (length ps * 3 - length ps * 2) space) (midOf (length ps * 3) (length ps * 4 - length ps * 3) space)
+  members-of = record {
+    families = families-of;
+    order-is = lent 0 (length ps) (length ps) space _ (omega arith) (m .walked .orders);
+    depths = lent (length ps) (length ps * 2) (length ps) space _ (omega arith) (m .walked .depths);
   }

@@ -1,8 +1,11 @@
 // Judging a parent list on a lent working space of 6n words.
 mod faults;
+mod filling;
 mod link;
 mod lost;
 mod parts;
+mod records;
+mod regions;
 mod sections;
 mod stray;
 mod walk;

@@ -25,13 +25,18 @@ entrySections ps =
     ++ (below n (position ps)
     ++ below n (size ps)))))
 
--- the sections that are filled from their start, and zeros behind
+-- the sections that are filled from their start, and zeros behind: LADDERS, GROUPS, JUMPS
+abbrev pub ladderCells : List ℕ → List ℕ
+ladderCells ps = padded (2 * length ps) (flatten (ladders ps))
+
+abbrev pub groupCells : List ℕ → List ℕ
+groupCells ps = padded (3 * length ps) (flatMap (groupWords groupLimit ps) (groupRoots groupLimit ps))
+
+abbrev pub jumpCells : List ℕ → List ℕ
+jumpCells ps = padded (recordWords * jumpRoom (length ps)) (flatMap (jumpRecord ps) (jumpNodes groupLimit ps))
+
 unfoldable pub laidSections : List ℕ → List ℕ
-laidSections ps =
-    let n = length ps in
-    padded (2 * n) (flatten (ladders ps))
-    ++ (padded (3 * n) (flatMap (groupWords groupLimit ps) (groupRoots groupLimit ps))
-    ++ padded (recordWords * jumpRoom n) (flatMap (jumpRecord ps) (jumpNodes groupLimit ps)))
+laidSections ps = ladderCells ps ++ (groupCells ps ++ jumpCells ps)
 
 -- the prepared table: DEPTH, KIND, LADPOS, ORDER, PRE, SIZE, LADDERS, GROUPS, JUMPS after the header
 unfoldable pub tableOf : List ℕ → List ℕ

@@ -1,10 +1,10 @@
 -- `measure::above` meets its contract: what is above the first i positions is there. Assumes nothing.
-use mathlib.Core.Path.{_≡_, refl, sym, ap, _∙_}
+use mathlib.Core.Path.{_≡_, refl, sym, _∙_}
 use mathlib.Core.List.{List}
-use Prim.Native.Nat.{ℕ, _+_, _-_, _≤_, _<_}
+use Prim.Native.Nat.{ℕ, _-_, _≤_}
 use native.Mathlib.Omega.{arith}
 use borrow.Author.Needs.{needs}
-use lib.ListN.{length, getD, set, length-set}
+use lib.ListN.{length, set, length-set}
 use Rattle.fill.specs.Arrays.{entryAt, abovePosition, Depths}
 use Rattle.fill.proofs.Spreading.{Ran, ran-none, ran-more, ran-map}
 use Rattle.fill.proofs.Sizing.{deeps-length, deeps-some, first-above}

@@ -1,12 +1,11 @@
 -- `measure::heights` meets its contract: the heights and the long children from place i on are there. Assumes nothing.
-use mathlib.Core.Path.{_≡_, refl, sym, ap, _∙_}
+use mathlib.Core.Path.{_≡_, sym, _∙_}
 use mathlib.Core.List.{List}
-use Prim.Native.Nat.{ℕ, _+_, _*_, _-_, _≤_, _<_}
+use Prim.Native.Nat.{ℕ, _+_, _*_, _-_, _≤_}
 use native.Mathlib.Omega.{arith}
 use borrow.Author.Needs.{needs}
-use lib.ListN.{length, getD, set, length-set}
-use lib.Seq.{getD-set-other}
-use Rattle.fill.specs.Arrays.{entryAt, longPosition, Sizes}
+use lib.ListN.{length, set, length-set}
+use Rattle.fill.specs.Arrays.{Sizes}
 use Rattle.fill.proofs.Towering.{Towered, spans-length, tower-more, tower-end, high-small, high-leaf, long-inside, high-next}
 use Rattle.fill.proofs.measure.heights.Statement.{statement}
 use Rattle.fill.proofs.measure.heights.Tie as tie

@@ -1,10 +1,10 @@
 -- `measure::higher` meets its contract: what is above the position is on the climb from the entry that the loop has come to. Assumes nothing.
-use mathlib.Core.Path.{_≡_, refl, sym, ap, _∙_}
+use mathlib.Core.Path.{_≡_, ap}
 use mathlib.Core.List.{List}
 use Prim.Native.Nat.{ℕ, _+_, _-_, _≤_, _<_}
 use native.Mathlib.Omega.{arith}
 use borrow.Author.Needs.{needs}
-use lib.ListN.{length, getD}
+use lib.ListN.{getD}
 use Rattle.fill.specs.Arrays.{entryAt, abovePosition, Depths}
 use Rattle.fill.proofs.Sizing.{Nearing, near-start, near-on, near-end}
 use Rattle.fill.proofs.measure.higher.Statement.{statement}

@@ -1,10 +1,10 @@
 -- `measure::sizes` meets its contract: the sizes from place i on are there. Assumes nothing.
-use mathlib.Core.Path.{_≡_, sym, ap, _∙_}
+use mathlib.Core.Path.{_≡_, sym, _∙_}
 use mathlib.Core.List.{List}
-use Prim.Native.Nat.{ℕ, _+_, _-_, _≤_, _<_}
+use Prim.Native.Nat.{ℕ, _-_, _≤_}
 use native.Mathlib.Omega.{arith}
 use borrow.Author.Needs.{needs}
-use lib.ListN.{length, getD, length-set}
+use lib.ListN.{length, length-set}
 use Rattle.tree.specs.Forest.{size}
 use Rattle.fill.specs.Arrays.{entryAt, Depths}
 use Rattle.fill.proofs.Sizing.{Back, back-more, back-all, deeps-length}

@@ -1,5 +1,5 @@
 -- `measure::tallest` meets its contract: the loop has walked over the first children, and kept the tallest of them. Assumes nothing.
-use mathlib.Core.Path.{_≡_, refl, sym, ap, _∙_}
+use mathlib.Core.Path.{_≡_, refl, ap}
 use mathlib.Core.List.{List}
 use Prim.Native.Nat.{ℕ, _+_, _-_, _≤_, _<_}
 use native.Mathlib.Omega.{arith}
@@ -13,15 +13,15 @@ use Rattle.fill.proofs.measure.tallest.Tie as tie
 
 abbrev Inv-loop : tie.InvT-loop
 Inv-loop sizes high end best₀ most₀ next₀ best most next =
-    (end ≤ length sizes)
+    (end .0 ≤ length sizes)
     × (next₀ .0 ≤ next .0)
     × ((ps : List ℕ) (at : ℕ) → next₀ .0 ≡ at + 1 → Sizes ps sizes → ((k : ℕ) → at < k → k < length sizes → getD high k 0 ≡ height ps (entryAt ps k)) → Walked ps at (next .0) most (best .0))
 
 abbrev μ-loop : tie.MeasureT-loop
-μ-loop sizes high end best₀ most₀ next₀ best most next = end - next .0
+μ-loop sizes high end best₀ most₀ next₀ best most next = end .0 - next .0
 
-add-end : tie.Need-add-end Inv-loop μ-loop
-add-end c =
+add-t13 : tie.Need-add-t13 Inv-loop μ-loop
+add-t13 c =
     let s = c .before .before .before in
     let (ps, z, b) = s .pre .0 in
     omega (arith, z .few, spans-length ps _ z, span-room ps _ z (s .args .at .0) (s .pre .1))
@@ -40,24 +40,24 @@ loop-holds c =
 
 add-if2 : tie.Need-add-if2 Inv-loop μ-loop
 add-if2 c =
-    let l = c .before .before .before .before .before .loop in
-    let s = c .before .before .before .before .before .before .before .before .before .before in
+    let l = c .before .before .before .before .before .before .loop in
+    let s = c .before .before .before .before .before .before .before .before .before .before .before in
     let at = s .args .at .0 in
     let (ps, z, b) = s .pre .0 in
     omega (arith, z .few, spans-length ps _ z, walk-room ps (s .args .sizes .now) z at (s .pre .1) (l .next .0) (l .most) (l .best .0) (l .inv .2 ps at refl z b) (c .before .before .before .if1 .taken))
 
 loop-less : tie.Need-loop-less Inv-loop μ-loop
 loop-less c =
-    let l = c .before .before .before .before .before .before .before .before .before .before .loop in
-    let s = c .before .before .before .before .before .before .before .before .before .before .before .before .before .before .before in
+    let l = c .before .before .before .before .before .before .before .before .before .before .before .loop in
+    let s = c .before .before .before .before .before .before .before .before .before .before .before .before .before .before .before .before in
     let at = s .args .at .0 in
     let (ps, z, b) = s .pre .0 in
     omega (arith, walk-on ps (s .args .sizes .now) z at (s .pre .1) (l .next .0) (l .most) (l .best .0) (l .inv .2 ps at refl z b) (c .before .before .before .before .before .before .before .before .if1 .taken))
 
 loop-again : tie.Need-loop-again Inv-loop μ-loop
 loop-again c =
-    let l = c .before .before .before .before .before .before .before .before .before .before .loop in
-    let s = c .before .before .before .before .before .before .before .before .before .before .before .before .before .before .before in
+    let l = c .before .before .before .before .before .before .before .before .before .before .before .loop in
+    let s = c .before .before .before .before .before .before .before .before .before .before .before .before .before .before .before .before in
     let sizes = s .args .sizes .now in (
       l .inv .0,
       omega arith,
@@ -69,16 +69,16 @@ loop-again c =
 
 loop-less-2 : tie.Need-loop-less-2 Inv-loop μ-loop
 loop-less-2 c =
-    let l = c .before .before .before .before .before .before .before .before .loop in
-    let s = c .before .before .before .before .before .before .before .before .before .before .before .before .before in
+    let l = c .before .before .before .before .before .before .before .before .before .loop in
+    let s = c .before .before .before .before .before .before .before .before .before .before .before .before .before .before in
     let at = s .args .at .0 in
     let (ps, z, b) = s .pre .0 in
     omega (arith, walk-on ps (s .args .sizes .now) z at (s .pre .1) (l .next .0) (l .most) (l .best .0) (l .inv .2 ps at refl z b) (c .before .before .before .before .before .before .if1 .taken))
 
 loop-again-2 : tie.Need-loop-again-2 Inv-loop μ-loop
 loop-again-2 c =
-    let l = c .before .before .before .before .before .before .before .before .loop in
-    let s = c .before .before .before .before .before .before .before .before .before .before .before .before .before in
+    let l = c .before .before .before .before .before .before .before .before .before .loop in
+    let s = c .before .before .before .before .before .before .before .before .before .before .before .before .before .before in
     let sizes = s .args .sizes .now in (
       l .inv .0,
       omega arith,
@@ -90,8 +90,8 @@ loop-again-2 c =
 
 returns : tie.Need-returns Inv-loop μ-loop
 returns c ps z b =
-    let l = c .before .before .loop in
-    let s = c .before .before .before .before .before .before .before in
+    let l = c .before .before .before .loop in
+    let s = c .before .before .before .before .before .before .before .before in
     walk-end ps (s .args .sizes .now) z (s .args .at .0) (s .pre .1) (l .next .0) (l .most) (l .best .0) (l .inv .2 ps (s .args .at .0) refl z b) (c .if1 .left)
 
 pub tallest-spec : {M : Type 1} → statement M
@@ -103,7 +103,7 @@ tallest-spec =
     (λ c. search needs)
     (λ c. search needs)
     (λ c. search needs)
-    add-end
+    add-t13
     add-t12
     loop-holds
     (λ c. search needs)
