@@ -8,19 +8,17 @@ use crate::words::least;
 use crate::words::less;
 use crate::words::put;
 
-pub const CHAIN: usize = 0;
+const CHAIN: usize = 0;
 
-pub const STAR: usize = 1;
+const STAR: usize = 1;
 
-pub const RANDOM: usize = 2;
+const RANDOM: usize = 2;
 
-pub const CATERPILLAR: usize = 3;
+const CATERPILLAR: usize = 3;
 
-pub const BINARY: usize = 4;
+const BINARY: usize = 4;
 
-pub const BROOM: usize = 5;
-
-pub const DEEP: usize = 6;
+const BROOM: usize = 5;
 
 // A chain of half the entries, and the rest below its end.
 fn broom(i: usize, n: usize) -> usize {
@@ -28,7 +26,7 @@ fn broom(i: usize, n: usize) -> usize {
     least(less(i, 1), end)
 }
 
-// The parent of entry i, over 0, in a list of n entries of a kind.
+// The parent of entry i, over 0, in a list of n entries of a kind: of any other kind it is one of the last three entries, for a deep list.
 fn parent(kind: usize, i: usize, n: usize, seed: usize) -> usize {
     let last = less(i, 1);
     if kind == CHAIN {
