@@ -4,14 +4,14 @@ ghost use Prim.Native.Nat.{_*_, _≤_};
 ghost use lib.ListN.{length};
 ghost use Rattle.prepare.specs.Regions.{Ordered};
 ghost use Rattle.prepare.specs.Verdict.{verdict, Says};
-use crate::Judged;
+use crate::Reply;
 use crate::link::link;
 use crate::lost::first_lost;
 use crate::stray::first_stray;
 use crate::walk::walk;
 use crate::words::wide;
 
-pub(crate) fn faults(parents: &[u32], space: &mut [u32]) -> Judged
+pub(crate) fn faults(parents: &[u32], space: &mut [u32]) -> Reply
     requires { ⌜ (length (now parents) ≤ 1048576) × (6 * length (now parents) ≤ length (now space)) ⌝ }
     ensures answer { λ r. ⌜ Says (verdict (now (parents .entry))) (r .number) (r .word) ⌝ }
     ensures walked { λ r. ⌜ (r .number ≡ 0 → Ordered (now (parents .entry)) (now (space .exit))) ⌝ }
@@ -19,19 +19,19 @@ pub(crate) fn faults(parents: &[u32], space: &mut [u32]) -> Judged
     let n = parents.len();
     let s = first_stray(parents);
     if wide(s) < n {
-        return Judged { number: 4, word: s };
+        return Reply { number: 4, word: s };
     }
     let first = link(parents, space);
     let t = wide(first);
     if n <= t {
-        return Judged {
+        return Reply {
             number: 5,
             word: n as u32,
         };
     }
     let u = wide(space[n * 3 + t]);
     if u < n {
-        return Judged {
+        return Reply {
             number: 5,
             word: u as u32,
         };
@@ -39,12 +39,12 @@ pub(crate) fn faults(parents: &[u32], space: &mut [u32]) -> Judged
     let count = walk(parents, first, space);
     if count < n {
         let w = first_lost(parents, count, space);
-        return Judged {
+        return Reply {
             number: 6,
             word: w as u32,
         };
     }
-    Judged {
+    Reply {
         number: 0,
         word: n as u32,
     }

@@ -1,4 +1,4 @@
-// Judging a parent list on a lent working space of 6n words.
+// Preparing the table of a parent list, and judging the list alone, on a lent working space of 6n words.
 mod faults;
 mod filling;
 mod link;
@@ -12,33 +12,71 @@ mod walk;
 mod words;
 
 ghost use mathlib.Core.Path.{_≡_};
+ghost use mathlib.Core.Logic.{_↔_};
+ghost use mathlib.Core.List.{[], _∷_};
+ghost use mathlib.Core.Bool.{true};
+ghost use Prim.Native.Nat.{_≤_};
 ghost use lib.ListN.{length};
-ghost use Rattle.table.specs.Preparing.{judging, judgedSpace};
+ghost use Rattle.base.specs.Lists.{has};
+ghost use Rattle.base.specs.Limits.{mostEntries, tableWords, spaceWords};
+ghost use Rattle.tree.specs.Faults.{Tree};
+ghost use Rattle.table.specs.Preparing.{preparing, tableAfter, spaceAfter, Prepared, judging, judgedSpace};
 ghost use Rattle.prepare.specs.Verdict.{Says};
 
-// A number with what it names: 0 names n.
-pub struct Judged {
+// A number with what it names.
+pub struct Reply {
     pub number: u32,
     pub word: u32,
 }
 
-// Whether a parent list forms one tree, and if not, why. The space is left zero where it was used, and else unchanged.
-pub fn judge(parents: &[u32], space: &mut [u32]) -> Judged
+// Whether a parent list forms one tree (0 names n), and if not, why. The space is left zero where it was used, and else unchanged.
+pub fn judge(parents: &[u32], space: &mut [u32]) -> Reply
     ensures answer { λ r. ⌜ Says (judging (now (parents .entry)) (length (now (space .entry)))) (r .number) (r .word) ⌝ }
+    ensures numbers { λ r. ⌜ has (0 ∷ 1 ∷ 3 ∷ 4 ∷ 5 ∷ 6 ∷ []) (r .number) ≡ true ⌝ }
     ensures left { λ _. ⌜ now (space .exit) ≡ judgedSpace (now (parents .entry)) (now (space .entry)) ⌝ }
 {
     let n = parents.len();
     if n == 0 {
-        return Judged { number: 1, word: 0 };
+        return Reply { number: 1, word: 0 };
     }
     if 1048576 < n {
-        return Judged { number: 1, word: 0 };
+        return Reply { number: 1, word: 0 };
     }
     let m = n * 6;
     if space.len() < m {
-        return Judged { number: 3, word: 0 };
+        return Reply { number: 3, word: 0 };
     }
     let found = faults::faults(parents, &mut space[0..m]);
     words::clear(space, m);
     found
+}
+
+// The table of a parent list (0 names W), or why there is none. A refusal leaves the table unchanged; the space is left zero where it was used, and else
+// unchanged.
+pub fn prepare(parents: &[u32], table: &mut [u32], space: &mut [u32]) -> Reply
+    ensures answer { λ r. ⌜ Says (preparing (now (parents .entry)) (length (now (table .entry))) (length (now (space .entry)))) (r .number) (r .word) ⌝ }
+    ensures numbers { λ r. ⌜ has (0 ∷ 1 ∷ 2 ∷ 3 ∷ 4 ∷ 5 ∷ 6 ∷ []) (r .number) ≡ true ⌝ }
+    ensures written { λ _. ⌜ now (table .exit) ≡ tableAfter (now (parents .entry)) (now (table .entry)) (now (space .entry)) ⌝ }
+    ensures left { λ _. ⌜ now (space .exit) ≡ spaceAfter (now (parents .entry)) (now (table .entry)) (now (space .entry)) ⌝ }
+    ensures accepts { λ r. ⌜ ((r .number ≡ 0) ↔ ((1 ≤ length (now (parents .entry))) × (length (now (parents .entry)) ≤ mostEntries) × Tree (now (parents .entry)) × (tableWords (length (now (parents .entry))) ≤ length (now (table .entry))) × (spaceWords (length (now (parents .entry))) ≤ length (now (space .entry))))) ⌝ }
+    ensures prepared { λ r. ⌜ (r .number ≡ 0 → Prepared (now (parents .entry)) (now (table .exit))) ⌝ }
+{
+    let n = parents.len();
+    if n == 0 {
+        return Reply { number: 1, word: 0 };
+    }
+    if 1048576 < n {
+        return Reply { number: 1, word: 0 };
+    }
+    let w = 4 + n * 11 + n / 6 * 21;
+    if table.len() < w {
+        return Reply { number: 2, word: 0 };
+    }
+    let m = n * 6;
+    if space.len() < m {
+        return Reply { number: 3, word: 0 };
+    }
+    let reply = filling::accept(parents, &mut table[0..w], &mut space[0..m]);
+    words::clear(space, m);
+    reply
 }

@@ -1,2 +1,3 @@
 -- Theorems of preparing.
 pub mod Accepting
+pub mod Answering
