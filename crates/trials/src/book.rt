@@ -21,8 +21,6 @@ pub const ROOTS: usize = 3584;
 
 pub const JUMPS: usize = 4096;
 
-pub const WORDS: usize = 4608;
-
 pub fn read(book: &[u32], part: usize, v: usize) -> usize {
     get(book, add(part, v))
 }

@@ -56,18 +56,19 @@ fn prepared(
     }
 }
 
+// Whether an answer leaves zeros in the space.
+fn touched(number: usize) -> bool {
+    if number == 0 {
+        return true;
+    }
+    3 < number
+}
+
 // What the table is to hold after an answer, in so many cells.
-fn table_after(
-    parents: &[u32],
-    n: usize,
-    cells: usize,
-    number: usize,
-    book: &mut [u32],
-    want: &mut [u32],
-) {
+fn table_after(parents: &[u32], n: usize, cells: usize, number: usize, want: &mut [u32]) {
     fill(want, cells);
     if number == 0 {
-        lay(parents, n, book, want);
+        lay(parents, n, want);
     }
 }
 
@@ -79,12 +80,22 @@ fn space_after(n: usize, words: usize, number: usize, want: &mut [u32]) {
     }
 }
 
-// Whether an answer leaves zeros in the space.
-fn touched(number: usize) -> bool {
-    if number == 0 {
-        return true;
-    }
-    3 < number
+fn table_differences(
+    parents: &[u32],
+    n: usize,
+    cells: usize,
+    number: usize,
+    table: &[u32],
+) -> usize {
+    let mut want = [0u32; 7440];
+    table_after(parents, n, cells, number, &mut want);
+    differences(table, &want, cells)
+}
+
+fn space_differences(n: usize, words: usize, number: usize, space: &[u32]) -> usize {
+    let mut want = [0u32; 3091];
+    space_after(n, words, number, &mut want);
+    differences(space, &want, words)
 }
 
 // How much differs after a call with so many words of the table and of the space. Both are compared for 16 words beyond.
@@ -93,18 +104,15 @@ pub fn trial(
     n: usize,
     t: usize,
     s: usize,
-    book: &mut [u32],
-    want: &mut [u32],
     table: &mut [u32],
     space: &mut [u32],
 ) -> usize {
-    let cells = add(t, 16);
-    let words = add(s, 16);
     let reply = prepared(parents, n, table, t, space, s);
     let v = judge(parents, n, t, s);
     let said = add(differ(reply.number, v.number), differ(reply.name, v.name));
-    table_after(parents, n, cells, v.number, book, want);
-    let laid = differences(table, want, cells);
-    space_after(n, words, v.number, want);
-    add(add(said, laid), differences(space, want, words))
+    let laid = table_differences(parents, n, add(t, 16), v.number, table);
+    add(
+        add(said, laid),
+        space_differences(n, add(s, 16), v.number, space),
+    )
 }

@@ -50,12 +50,25 @@ fn header(n: usize, jumps: usize, groups: usize, paths: usize, want: &mut [u32])
     put(want, 3, paths);
 }
 
-pub fn lay(parents: &[u32], n: usize, book: &mut [u32], want: &mut [u32]) {
-    keep(parents, n, book);
-    let groups = list_roots(parents, n, book);
-    let jumps = list_jumps(parents, n, book);
+// The table, from the book of the list.
+fn lay_from(
+    parents: &[u32],
+    n: usize,
+    groups: usize,
+    jumps: usize,
+    book: &[u32],
+    want: &mut [u32],
+) {
     clear(want, table_words(n));
     sections(book, n, want);
     others(parents, book, n, groups, jumps, want);
     header(n, jumps, groups, count_paths(parents, book, n), want);
+}
+
+pub fn lay(parents: &[u32], n: usize, want: &mut [u32]) {
+    let mut book = [0u32; 4608];
+    keep(parents, n, &mut book);
+    let groups = list_roots(parents, n, &mut book);
+    let jumps = list_jumps(parents, n, &mut book);
+    lay_from(parents, n, groups, jumps, &book, want);
 }

@@ -27,8 +27,6 @@ fn line_differences(
     line: usize,
     count: usize,
     parents: &mut [u32],
-    book: &mut [u32],
-    want: &mut [u32],
     table: &mut [u32],
     space: &mut [u32],
 ) -> usize {
@@ -36,28 +34,19 @@ fn line_differences(
     let mut k = 0;
     while k < count {
         let c = case_at(line, k, parents);
-        sum = add(
-            sum,
-            trial(parents, c.n, c.table, c.space, book, want, table, space),
-        );
+        sum = add(sum, trial(parents, c.n, c.table, c.space, table, space));
         k += 1;
     }
     sum
 }
 
-fn run(
-    parents: &mut [u32],
-    book: &mut [u32],
-    want: &mut [u32],
-    table: &mut [u32],
-    space: &mut [u32],
-) {
+fn run(parents: &mut [u32], table: &mut [u32], space: &mut [u32]) {
     let mut trials = 0;
     let mut differences = 0;
     let mut line = 0;
     while line < LINES {
         let count = count_at(line);
-        let d = line_differences(line, count, parents, book, want, table, space);
+        let d = line_differences(line, count, parents, table, space);
         say(line, count, d);
         trials = add(trials, count);
         differences = add(differences, d);
@@ -68,9 +57,7 @@ fn run(
 
 fn main() {
     let mut parents = [0u32; 512];
-    let mut book = [0u32; 4608];
-    let mut want = [0u32; 7440];
     let mut table = [0u32; 7440];
     let mut space = [0u32; 3091];
-    run(&mut parents, &mut book, &mut want, &mut table, &mut space);
+    run(&mut parents, &mut table, &mut space);
 }

@@ -6,12 +6,10 @@ use crate::book::OFFSET;
 use crate::book::ORDER;
 use crate::book::PRE;
 use crate::book::SIZE;
-use crate::book::WORDS;
 use crate::book::read;
 use crate::book::write;
 use crate::words::TOP;
 use crate::words::add;
-use crate::words::clear;
 use crate::words::get;
 
 // The climbs from v to the top, or n where v never meets it.
@@ -150,9 +148,8 @@ fn long_children(parents: &[u32], n: usize, book: &mut [u32]) {
     }
 }
 
-// Fills the book of a list that forms one tree.
+// Fills the book of a list that forms one tree, from zeros.
 pub fn keep(parents: &[u32], n: usize, book: &mut [u32]) {
-    clear(book, WORDS);
     measure(parents, n, book);
     offsets(parents, n, book);
     places(parents, n, book);

@@ -1,72 +1,50 @@
 // A line of the output: a name, the number of trials and the number of differences.
+use crate::words::add;
+use crate::words::less;
 
-fn tree_name(line: usize) {
-    match line {
-        0 => {
-            io::write_all(1, b"chain,");
+// The place behind so many commas, or the end.
+fn behind(text: &[u8], commas: usize) -> usize {
+    let mut left = commas;
+    let mut i = 0;
+    while i < text.len() {
+        if left == 0 {
+            return i;
         }
-        1 => {
-            io::write_all(1, b"star,");
+        if text[i] == b',' {
+            left = less(left, 1);
         }
-        2 => {
-            io::write_all(1, b"random,");
-        }
-        3 => {
-            io::write_all(1, b"caterpillar,");
-        }
-        4 => {
-            io::write_all(1, b"binary,");
-        }
-        5 => {
-            io::write_all(1, b"broom,");
-        }
-        _ => {
-            io::write_all(1, b"deep,");
+        i += 1;
+    }
+    i
+}
+
+// Writes a part of a text that has so many commas before it, up to its own comma.
+fn part(text: &[u8], commas: usize) {
+    let from = behind(text, commas);
+    let to = behind(text, add(commas, 1));
+    if from <= to {
+        if to <= text.len() {
+            io::write_all(1, &text[from..to]);
         }
     }
 }
 
-fn other_name(line: usize) {
-    match line {
-        7 => {
-            io::write_all(1, b"stray,");
-        }
-        8 => {
-            io::write_all(1, b"tops,");
-        }
-        9 => {
-            io::write_all(1, b"topless,");
-        }
-        10 => {
-            io::write_all(1, b"loop,");
-        }
-        11 => {
-            io::write_all(1, b"empty,");
-        }
-        12 => {
-            io::write_all(1, b"short table,");
-        }
-        13 => {
-            io::write_all(1, b"short space,");
-        }
-        14 => {
-            io::write_all(1, b"any,");
-        }
-        15 => {
-            io::write_all(1, b"grown,");
-        }
-        _ => {
-            io::write_all(1, b"total,");
-        }
+fn name(line: usize) {
+    if line < 11 {
+        part(
+            b"chain,star,random,caterpillar,binary,broom,deep,stray,tops,topless,loop,",
+            line,
+        );
+    } else {
+        part(
+            b"empty,short table,short space,any,grown,total,",
+            less(line, 11),
+        );
     }
 }
 
 pub fn say(line: usize, count: usize, differences: usize) {
-    if line < 7 {
-        tree_name(line);
-    } else {
-        other_name(line);
-    }
+    name(line);
     io::print_decimal(1, count as u64);
     io::write_all(1, b",");
     io::print_decimal(1, differences as u64);

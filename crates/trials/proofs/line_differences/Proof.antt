@@ -8,10 +8,10 @@ use Rattle.trials.proofs.line_differences.Statement.{statement}
 use Rattle.trials.proofs.line_differences.Tie as tie
 
 abbrev Inv-loop : tie.InvT-loop
-Inv-loop line count parents₀ book₀ want₀ table₀ space₀ sum₀ k₀ parents book want table space sum k = (length parents ≡ length parents₀) × (length book ≡ length book₀) × (length want ≡ length want₀) × (length table ≡ length table₀) × (length space ≡ length space₀)
+Inv-loop line count parents₀ table₀ space₀ sum₀ k₀ parents table space sum k = (length parents ≡ length parents₀) × (length table ≡ length table₀) × (length space ≡ length space₀)
 
 abbrev μ-loop : tie.MeasureT-loop
-μ-loop line count parents₀ book₀ want₀ table₀ space₀ sum₀ k₀ parents book want table space sum k = count - k
+μ-loop line count parents₀ table₀ space₀ sum₀ k₀ parents table space sum k = count - k
 
 pub line-differences-spec : {M : Type 1} → statement M
 line-differences-spec =
@@ -19,14 +19,12 @@ line-differences-spec =
     (tie.spec
     Inv-loop
     μ-loop
-    (λ c. (refl, refl, refl, refl, refl))
+    (λ c. (refl, refl, refl))
     (λ c κs. tt)
     (λ c κs. tt)
     (λ c κs. tt)
     (λ c. omega arith)
     (λ c. omega arith)
-    (λ c. search needs)
-    (λ c. search needs)
     (λ c. search needs)
     (λ c. search needs)
     (λ c. search needs)

@@ -8,10 +8,10 @@ use Rattle.trials.proofs.run.Statement.{statement}
 use Rattle.trials.proofs.run.Tie as tie
 
 abbrev Inv-loop : tie.InvT-loop
-Inv-loop parents₀ book₀ want₀ table₀ space₀ trials₀ differences₀ line₀ parents book want table space trials differences line = (length parents ≡ length parents₀) × (length book ≡ length book₀) × (length want ≡ length want₀) × (length table ≡ length table₀) × (length space ≡ length space₀)
+Inv-loop parents₀ table₀ space₀ trials₀ differences₀ line₀ parents table space trials differences line = (length parents ≡ length parents₀) × (length table ≡ length table₀) × (length space ≡ length space₀)
 
 abbrev μ-loop : tie.MeasureT-loop
-μ-loop parents₀ book₀ want₀ table₀ space₀ trials₀ differences₀ line₀ parents book want table space trials differences line = 16 - line
+μ-loop parents₀ table₀ space₀ trials₀ differences₀ line₀ parents table space trials differences line = 16 - line
 
 pub run-spec : {M : Type 1} → statement M
 run-spec =
@@ -19,7 +19,7 @@ run-spec =
     (tie.spec
     Inv-loop
     μ-loop
-    (λ c. (refl, refl, refl, refl, refl))
+    (λ c. (refl, refl, refl))
     (λ c κs. tt)
     (λ c κs. tt)
     (λ c κs. tt)
@@ -29,8 +29,6 @@ run-spec =
     (λ c. omega arith)
     (λ c. search needs)
     (λ c κs. tt)
-    (λ c. search needs)
-    (λ c. search needs)
     (λ c. search needs)
     (λ c. search needs)
     (λ c. search needs)
