@@ -9,4 +9,5 @@ pub mod Positions
 pub mod Intervals
 pub mod Ancestry
 pub mod Meanings
+pub mod Branches
 pub mod Theorems

@@ -1,0 +1,2 @@
+-- Why the class is the climb's.
+pub mod Climbed

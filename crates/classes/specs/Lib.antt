@@ -1,0 +1,2 @@
+-- What the class of an entry is.
+pub mod Class
