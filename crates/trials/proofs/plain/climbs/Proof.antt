@@ -1,0 +1,25 @@
+-- `plain::climbs` is safe and ends. Assumes nothing.
+use Prim.Native.Nat.{_-_}
+use native.Mathlib.Omega.{arith}
+use Rattle.trials.proofs.plain.climbs.Statement.{statement}
+use Rattle.trials.proofs.plain.climbs.Tie as tie
+
+abbrev Inv-loop : tie.InvT-loop
+Inv-loop parents n v at₀ k₀ at k = Unit {0}
+
+abbrev μ-loop : tie.MeasureT-loop
+μ-loop parents n v at₀ k₀ at k = n - k
+
+pub climbs-spec : {M : Type 1} → statement M
+climbs-spec =
+    tie.close
+    (tie.spec
+    Inv-loop
+    μ-loop
+    (λ c. tt)
+    (λ c κs. tt)
+    (λ c. tt)
+    (λ c. omega arith)
+    (λ c. omega arith)
+    (λ c. tt)
+    (λ c. tt))
