@@ -1,0 +1,4 @@
+-- The lines of the counter program: what they say, and what is printed.
+pub mod Text
+pub mod Fields
+pub mod Counter

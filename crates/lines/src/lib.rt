@@ -1,0 +1,1 @@
+// The counter program's lines: reading and writing them.
