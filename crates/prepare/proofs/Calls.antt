@@ -16,7 +16,7 @@ use Rattle.table.specs.Table.{tableOf}
 use Rattle.table.specs.Preparing.{countFault, tableFault, spaceFault, callFault, refusal, preparing, tableAfter, spaceAfter}
 use Rattle.prepare.specs.Regions.{Ordered}
 use Rattle.table.proofs.Answering.{list-zero}
-use Rattle.prepare.specs.Stages.{Walked}
+use Rattle.layout.specs.Stages.{Walked}
 use Rattle.prepare.specs.Verdict.{verdict, Says}
 
 -- 1 to 3

@@ -1,4 +1,3 @@
 -- The regions of the working space, what they hold, and what is answered.
 pub mod Regions
-pub mod Stages
 pub mod Verdict

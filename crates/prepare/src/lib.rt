@@ -1,13 +1,9 @@
 // Preparing the table of a parent list, and judging the list alone, on a lent working space of 6n words.
+mod accepting;
 mod faults;
-mod filling;
 mod judging;
 mod link;
 mod lost;
-mod parts;
-mod records;
-mod regions;
-mod sections;
 mod stray;
 mod walk;
 mod words;
@@ -53,7 +49,7 @@ pub fn prepare(parents: &[u32], table: &mut [u32], space: &mut [u32]) -> Reply
     if space.len() < m {
         return Reply { number: 3, word: 0 };
     }
-    let reply = filling::accept(parents, &mut table[0..w], &mut space[0..m]);
+    let reply = accepting::accept(parents, &mut table[0..w], &mut space[0..m]);
     words::clear(space, m);
     reply
 }

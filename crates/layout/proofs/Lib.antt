@@ -1,0 +1,5 @@
+-- How the sections make the table.
+pub mod Staging
+pub mod Loading
+pub mod Assembly
+pub mod Recording

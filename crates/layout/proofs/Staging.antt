@@ -1,0 +1,131 @@
+-- What the stages of filling the table ask and leave, over plain lists. Assumes nothing.
+use mathlib.Core.Path.{_≡_, refl, ap, _∙_}
+use mathlib.Core.List.{List, map}
+use Prim.Native.Nat.{ℕ, _+_, _*_, _-_, _≤_}
+use native.Mathlib.Omega.{arith}
+use borrow.Rule.Slice.PartMut.{midOf, putMid}
+use lib.ListN.{length, length-map}
+use Rattle.base.specs.Lists.{below, view, put}
+use Rattle.base.proofs.Lists.{each-length}
+use Rattle.base.proofs.Puts.{lent-view, lent-back, put-length, put-view, put-before, put-behind, put-again}
+use Rattle.tree.specs.Parents.{depth}
+use Rattle.tree.specs.Forest.{height, order}
+use Rattle.tree.specs.Faults.{Tree}
+use Rattle.table.specs.Ladders.{ladPos}
+use Rattle.fill.specs.Arrays.{Families, Members, Paths, Runs, Rungs, Indexes, abovePosition, longPosition}
+use Rattle.fill.proofs.Spreading.{order-indexes}
+use Rattle.fill.proofs.Laddering.{array-length}
+use Rattle.layout.specs.Stages.{Walked, Measured, Raised, Placing}
+
+-- a part that is lent has the words that stand there
+pub lent : (a b c : ℕ) (l x : List ℕ) → a + c ≡ b → view a c l ≡ x → midOf a (b - a) l ≡ x
+lent a b c l x e q = lent-view a b c l e ∙ q
+
+module _ (ps : List ℕ) where
+  abbrev n : ℕ
+  n = length ps
+
+  -- words put behind what a stage holds leave it
+  pub walked-put : (space : List ℕ) (a : ℕ) (x : List ℕ) → n * 2 ≤ a → a + length x ≤ n * 6 → Walked ps space → Walked ps (put space a x)
+  walked-put space a x h b w =
+      let fits : a + length x ≤ length space = omega (arith, w .room) in
+      record {
+        few = w .few;
+        tree = w .tree;
+        room = put-length space a x fits ∙ w .room;
+        orders = put-before space a x fits 0 n (omega arith) ∙ w .orders;
+        depths = put-before space a x fits n n (omega arith) ∙ w .depths;
+      }
+
+  pub measured-put : (space : List ℕ) (a : ℕ) (x : List ℕ) → n * 4 ≤ a → a + length x ≤ n * 6 → Measured ps space → Measured ps (put space a x)
+  measured-put space a x h b m =
+      let fits : a + length x ≤ length space = omega (arith, m .walked .room) in
+      record {
+        walked = walked-put space a x (omega arith) b (m .walked);
+        sizes = put-before space a x fits (n * 2) n (omega arith) ∙ m .sizes;
+        aboves = put-before space a x fits (n * 3) n (omega arith) ∙ m .aboves;
+      }
+
+  pub measured-array : (space : List ℕ) (a : ℕ) (f : ℕ → ℕ) → n * 4 ≤ a → a + n ≤ n * 6 → Measured ps space → Measured ps (put space a (map f (order ps)))
+  measured-array space a f h b m = measured-put space a (map f (order ps)) h (omega (arith, array-length ps (m .walked .few) (m .walked .tree) f (map f (order ps)) refl)) m
+
+  -- a section that was laid by position, and is then laid by entry
+  module _ (few : n ≤ 1048576) (tree : Tree ps) (f : ℕ → ℕ) (table cells : List ℕ) (a b : ℕ) (is : cells ≡ map f (order ps)) (e : a + n ≡ b) (fits : b ≤ length table) where
+    abbrev lent-table : List ℕ
+    lent-table = putMid a (b - a) table cells
+
+    cells-length : length cells ≡ n
+    cells-length = array-length ps few tree f cells is
+
+    back : lent-table ≡ put table a cells
+    back = lent-back a b table cells cells refl (omega (arith, cells-length))
+
+    pub carried : view a n lent-table ≡ map f (order ps)
+    carried = ap (view a n) back ∙ put-view table a cells (omega (arith, cells-length)) n cells-length ∙ is
+
+    pub relaid : put lent-table a (below n f) ≡ put table a (below n f)
+    relaid = ap (λ t. put t a (below n f)) back ∙ put-again table a cells (omega (arith, cells-length)) (below n f) (omega (arith, each-length n 0 f, cells-length))
+
+-- what each pass asks, of the regions that it is lent
+module _ (ps space : List ℕ) (w : Walked ps space) where
+  pub indexes-of : (cells : List ℕ) → length cells ≡ length ps → Indexes (midOf 0 (length ps - 0) space) cells
+  indexes-of cells e = order-indexes ps (w .few) (w .tree) _ cells (lent 0 (length ps) (length ps) space _ (omega arith) (w .orders)) e
+
+  runs-from : view (length ps * 3) (length ps) space ≡ map (abovePosition ps) (order ps)
+      → view (length ps * 4) (length ps) space ≡ map (height ps) (order ps)
+      → view (length ps * 5) (length ps) space ≡ map (longPosition ps) (order ps)
+      → Runs ps (midOf (length ps) (length ps * 2 - length ps) space) (midOf (length ps * 4) (length ps * 5 - length ps * 4) space) (midOf (length ps * 5) (length ps * 6 - length ps * 5) space) (midOf (length ps * 3) (length ps * 4 - length ps * 3) space)
+  runs-from above high long = record {
+    paths = record {
+      few = w .few;
+      tree = w .tree;
+      longs = lent (length ps * 5) (length ps * 6) (length ps) space _ (omega arith) long;
+      aboves = lent (length ps * 3) (length ps * 4) (length ps) space _ (omega arith) above;
+    };
+    depths = lent (length ps) (length ps * 2) (length ps) space _ (omega arith) (w .depths);
+    heights = lent (length ps * 4) (length ps * 5) (length ps) space _ (omega arith) high;
+  }
+
+module _ (ps space : List ℕ) (r : Raised ps space) where
+  pub runs-of : Runs ps (midOf (length ps) (length ps * 2 - length ps) space) (midOf (length ps * 4) (length ps * 5 - length ps * 4) space) (midOf (length ps * 5) (length ps * 6 - length ps * 5) space) (midOf (length ps * 3) (length ps * 4 - length ps * 3) space)
+  runs-of = runs-from ps space (r .measured .walked) (r .measured .aboves) (r .heights) (r .longs)
+
+  -- the places in region 2
+  pub placing : Placing ps (put space (length ps * 2) (map (ladPos ps) (order ps)))
+  placing =
+      let w = r .measured .walked in
+      let x = map (ladPos ps) (order ps) in
+      let wide : length x ≡ length ps = array-length ps (w .few) (w .tree) (ladPos ps) x refl in
+      let fits : length ps * 2 + length x ≤ length space = omega (arith, w .room) in
+      record {
+        walked = walked-put ps space (length ps * 2) x (omega arith) (omega arith) w;
+        places = put-view space (length ps * 2) x fits (length ps) wide;
+        aboves = put-behind space (length ps * 2) x fits (length ps * 3) (length ps) (omega arith) ∙ r .measured .aboves;
+        heights = put-behind space (length ps * 2) x fits (length ps * 4) (length ps) (omega arith) ∙ r .heights;
+        longs = put-behind space (length ps * 2) x fits (length ps * 5) (length ps) (omega arith) ∙ r .longs;
+      }
+
+module _ (ps space : List ℕ) (p : Placing ps space) where
+  pub rungs-of : Rungs ps (midOf 0 (length ps - 0) space) (midOf (length ps * 2) (length ps * 3 - length ps * 2) space) (midOf (length ps) (length ps * 2 - length ps) space) (midOf (length ps * 4) (length ps * 5 - length ps * 4) space)
+      (midOf (length ps * 5) (length ps * 6 - length ps * 5) space) (midOf (length ps * 3) (length ps * 4 - length ps * 3) space)
+  rungs-of = record {
+    runs = runs-from ps space (p .walked) (p .aboves) (p .heights) (p .longs);
+    order-is = lent 0 (length ps) (length ps) space _ (omega arith) (p .walked .orders);
+    places-are = lent (length ps * 2) (length ps * 3) (length ps) space _ (omega arith) (p .places);
+  }
+
+module _ (ps space : List ℕ) (m : Measured ps space) where
+  pub families-of : Families ps (midOf (length ps * 2) (length ps * 3 - length ps * 2) space) (midOf (length ps * 3) (length ps * 4 - length ps * 3) space)
+  families-of = record {
+    few = m .walked .few;
+    tree = m .walked .tree;
+    sizes-are = lent (length ps * 2) (length ps * 3) (length ps) space _ (omega arith) (m .sizes);
+    aboves = lent (length ps * 3) (length ps * 4) (length ps) space _ (omega arith) (m .aboves);
+  }
+
+  pub members-of : Members ps (midOf 0 (length ps - 0) space) (midOf (length ps) (length ps * 2 - length ps) space) (midOf (length ps * 2) (length ps * 3 - length ps * 2) space) (midOf (length ps * 3) (length ps * 4 - length ps * 3) space)
+  members-of = record {
+    families = families-of;
+    order-is = lent 0 (length ps) (length ps) space _ (omega arith) (m .walked .orders);
+    depths = lent (length ps) (length ps * 2) (length ps) space _ (omega arith) (m .walked .depths);
+  }
