@@ -1,4 +1,6 @@
 -- The lines of the counter program: what they say, and what is printed.
 pub mod Text
 pub mod Fields
+pub mod Reads
+pub mod Texts
 pub mod Counter
