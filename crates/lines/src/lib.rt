@@ -1,2 +1,1 @@
 // The counter program's lines: reading and writing them.
-pub mod reading;
