@@ -4,3 +4,4 @@ pub mod Fields
 pub mod Reads
 pub mod Texts
 pub mod Counter
+pub mod Stages
