@@ -97,10 +97,10 @@ pub fn ladders(
     ensures { λ _. ⌜ ((ps : List ℕ) → Rungs ps (now (order .entry)) (now (places .entry)) (now (depth .entry)) (now (height .entry)) (now (long .entry)) (now (above .entry)) → Laddered ps (now (cells .exit))) ⌝ }
 {
     set_all(cells, 0);
-    let mut i: usize = 0;
-    while i < order.len() {
-        let at = i;
-        i += 1;
+    let mut next: usize = 0;
+    while next < order.len() {
+        let at = next;
+        next += 1;
         let place = places[at];
         cells[place as usize] = order[at];
         let here = Position(at as u32);

@@ -50,21 +50,21 @@ cast-cells c =
     let l = c .before .before .before .loop in
     let s = c .before .before .before .before .before .before .before .before .before .before .before .before .before .before .before in
     let (ps, r) = s .pre .0 in
-    omega (arith, write-room ps (s .args .order .now) (s .args .places .now) (s .args .depth .now) (s .args .height .now) (s .args .long .now) (s .args .above .now) r (l .i) (omega arith) (l .cells) (l .inv .2 ps r), l .inv .1 .room, l .inv .1 .few)
+    omega (arith, write-room ps (s .args .order .now) (s .args .places .now) (s .args .depth .now) (s .args .height .now) (s .args .long .now) (s .args .above .now) r (l .next) (omega arith) (l .cells) (l .inv .2 ps r), l .inv .1 .room, l .inv .1 .few)
 
 mul-cells-2 : tie.Need-mul-cells-2 Inv-loop μ-loop
 mul-cells-2 c =
     let l = c .before .before .before .loop in
     let s = c .before .before .before .before .before .before .before .before .before .before .before .before .before .before .before in
     let (ps, r) = s .pre .0 in
-    omega (arith, write-room ps (s .args .order .now) (s .args .places .now) (s .args .depth .now) (s .args .height .now) (s .args .long .now) (s .args .above .now) r (l .i) (omega arith) (l .cells) (l .inv .2 ps r), l .inv .1 .room, l .inv .1 .few)
+    omega (arith, write-room ps (s .args .order .now) (s .args .places .now) (s .args .depth .now) (s .args .height .now) (s .args .long .now) (s .args .above .now) r (l .next) (omega arith) (l .cells) (l .inv .2 ps r), l .inv .1 .room, l .inv .1 .few)
 
 slice-write-cells : tie.Need-slice-write-cells Inv-loop μ-loop
 slice-write-cells c =
     let l = c .before .before .before .loop in
     let s = c .before .before .before .before .before .before .before .before .before .before .before .before .before .before .before in
     let (ps, r) = s .pre .0 in
-    omega (arith, write-room ps (s .args .order .now) (s .args .places .now) (s .args .depth .now) (s .args .height .now) (s .args .long .now) (s .args .above .now) r (l .i) (omega arith) (l .cells) (l .inv .2 ps r), l .inv .1 .room, l .inv .1 .few)
+    omega (arith, write-room ps (s .args .order .now) (s .args .places .now) (s .args .depth .now) (s .args .height .now) (s .args .long .now) (s .args .above .now) r (l .next) (omega arith) (l .cells) (l .inv .2 ps r), l .inv .1 .room, l .inv .1 .few)
 
 path-top-requires : tie.Need-path-top-requires Inv-loop μ-loop
 path-top-requires c κs =
@@ -79,10 +79,10 @@ rise-requires c κs =
     let s = c .before .before .before .before .before .before .before .before .before .before .before .before .before .before .before .before .before .before .before .before .before in
     let (ps, r) = s .pre .0 in
     let count = c .before .lesser .ensures in (
-      (ps, climbs-of ps (s .args .order .now) (s .args .places .now) (s .args .depth .now) (s .args .height .now) (s .args .long .now) (s .args .above .now) r, omega (arith, count, rise-word ps (s .args .order .now) (s .args .places .now) (s .args .depth .now) (s .args .height .now) (s .args .long .now) (s .args .above .now) r (l .i) (omega arith))),
+      (ps, climbs-of ps (s .args .order .now) (s .args .places .now) (s .args .depth .now) (s .args .height .now) (s .args .long .now) (s .args .above .now) r, omega (arith, count, rise-word ps (s .args .order .now) (s .args .places .now) (s .args .depth .now) (s .args .height .now) (s .args .long .now) (s .args .above .now) r (l .next) (omega arith))),
       omega arith,
-      omega (arith, count, rise-room ps (s .args .order .now) (s .args .places .now) (s .args .depth .now) (s .args .height .now) (s .args .long .now) (s .args .above .now) r (l .i) (omega arith) (sym (c .before .before .before .before .before .path-top .ensures ps (r .runs .paths)) ∙ c .before .before .before .before .if1 .taken)),
-      omega (arith, write-room ps (s .args .order .now) (s .args .places .now) (s .args .depth .now) (s .args .height .now) (s .args .long .now) (s .args .above .now) r (l .i) (omega arith) (l .cells) (l .inv .2 ps r), length-set (l .cells) (getD (s .args .places .now) (l .i) 0) (getD (s .args .order .now) (l .i) 0)),
+      omega (arith, count, rise-room ps (s .args .order .now) (s .args .places .now) (s .args .depth .now) (s .args .height .now) (s .args .long .now) (s .args .above .now) r (l .next) (omega arith) (sym (c .before .before .before .before .before .path-top .ensures ps (r .runs .paths)) ∙ c .before .before .before .before .if1 .taken)),
+      omega (arith, write-room ps (s .args .order .now) (s .args .places .now) (s .args .depth .now) (s .args .height .now) (s .args .long .now) (s .args .above .now) r (l .next) (omega arith) (l .cells) (l .inv .2 ps r), length-set (l .cells) (getD (s .args .places .now) (l .next) 0) (getD (s .args .order .now) (l .next) 0)),
     )
 
 loop-again : tie.Need-loop-again Inv-loop μ-loop
@@ -91,8 +91,8 @@ loop-again c =
     let s = c .before .before .before .before .before .before .before .before .before .before .before .before .before .before .before .before .before .before .before .before .before .before .before .before in
     let count = c .before .before .before .before .lesser .ensures in (
       omega arith,
-      record { few = l .inv .1 .few; placed = l .inv .1 .placed; deeps = l .inv .1 .deeps; highs = l .inv .1 .highs; aboves = l .inv .1 .aboves; room = (let (ps, r) = s .pre .0 in c .before .before .rise .ensures ps (climbs-of ps (s .args .order .now) (s .args .places .now) (s .args .depth .now) (s .args .height .now) (s .args .long .now) (s .args .above .now) r) (omega (arith, count, rise-word ps (s .args .order .now) (s .args .places .now) (s .args .depth .now) (s .args .height .now) (s .args .long .now) (s .args .above .now) r (l .i) (omega arith))) .same) ∙ length-set (l .cells) (getD (s .args .places .now) (l .i) 0) (getD (s .args .order .now) (l .i) 0) ∙ l .inv .1 .room },
-      λ ps r. fill-over ps (s .args .order .now) (s .args .places .now) (s .args .depth .now) (s .args .height .now) (s .args .long .now) (s .args .above .now) r (l .i) (omega arith) (l .cells) _ _ count (l .inv .2 ps r) (c .before .before .rise .ensures ps (climbs-of ps (s .args .order .now) (s .args .places .now) (s .args .depth .now) (s .args .height .now) (s .args .long .now) (s .args .above .now) r) (omega (arith, count, rise-word ps (s .args .order .now) (s .args .places .now) (s .args .depth .now) (s .args .height .now) (s .args .long .now) (s .args .above .now) r (l .i) (omega arith)))),
+      record { few = l .inv .1 .few; placed = l .inv .1 .placed; deeps = l .inv .1 .deeps; highs = l .inv .1 .highs; aboves = l .inv .1 .aboves; room = (let (ps, r) = s .pre .0 in c .before .before .rise .ensures ps (climbs-of ps (s .args .order .now) (s .args .places .now) (s .args .depth .now) (s .args .height .now) (s .args .long .now) (s .args .above .now) r) (omega (arith, count, rise-word ps (s .args .order .now) (s .args .places .now) (s .args .depth .now) (s .args .height .now) (s .args .long .now) (s .args .above .now) r (l .next) (omega arith))) .same) ∙ length-set (l .cells) (getD (s .args .places .now) (l .next) 0) (getD (s .args .order .now) (l .next) 0) ∙ l .inv .1 .room },
+      λ ps r. fill-over ps (s .args .order .now) (s .args .places .now) (s .args .depth .now) (s .args .height .now) (s .args .long .now) (s .args .above .now) r (l .next) (omega arith) (l .cells) _ _ count (l .inv .2 ps r) (c .before .before .rise .ensures ps (climbs-of ps (s .args .order .now) (s .args .places .now) (s .args .depth .now) (s .args .height .now) (s .args .long .now) (s .args .above .now) r) (omega (arith, count, rise-word ps (s .args .order .now) (s .args .places .now) (s .args .depth .now) (s .args .height .now) (s .args .long .now) (s .args .above .now) r (l .next) (omega arith)))),
     )
 
 loop-again-2 : tie.Need-loop-again-2 Inv-loop μ-loop
@@ -100,8 +100,8 @@ loop-again-2 c =
     let l = c .before .before .before .before .before .loop in
     let s = c .before .before .before .before .before .before .before .before .before .before .before .before .before .before .before .before .before in (
       omega arith,
-      record { few = l .inv .1 .few; placed = l .inv .1 .placed; deeps = l .inv .1 .deeps; highs = l .inv .1 .highs; aboves = l .inv .1 .aboves; room = length-set (l .cells) (getD (s .args .places .now) (l .i) 0) (getD (s .args .order .now) (l .i) 0) ∙ l .inv .1 .room },
-      λ ps r. fill-next ps (s .args .order .now) (s .args .places .now) (s .args .depth .now) (s .args .height .now) (s .args .long .now) (s .args .above .now) r (l .i) (omega arith) (l .cells) (l .inv .2 ps r) (sym (c .before .path-top .ensures ps (r .runs .paths)) ∙ c .if1 .left),
+      record { few = l .inv .1 .few; placed = l .inv .1 .placed; deeps = l .inv .1 .deeps; highs = l .inv .1 .highs; aboves = l .inv .1 .aboves; room = length-set (l .cells) (getD (s .args .places .now) (l .next) 0) (getD (s .args .order .now) (l .next) 0) ∙ l .inv .1 .room },
+      λ ps r. fill-next ps (s .args .order .now) (s .args .places .now) (s .args .depth .now) (s .args .height .now) (s .args .long .now) (s .args .above .now) r (l .next) (omega arith) (l .cells) (l .inv .2 ps r) (sym (c .before .path-top .ensures ps (r .runs .paths)) ∙ c .if1 .left),
     )
 
 same-length : tie.Need-same-length Inv-loop μ-loop
@@ -115,7 +115,7 @@ returns c ps r =
     let l = c .before .loop in
     let s = c .before .before .before .before .before .before .before .before .before .before .before .before .before in
     let few = r .runs .paths .few in
-    let z : l .i ≡ length ps = omega (arith, rungs-length ps (s .args .order .now) (s .args .places .now) (s .args .depth .now) (s .args .height .now) (s .args .long .now) (s .args .above .now) r) in
+    let z : l .next ≡ length ps = omega (arith, rungs-length ps (s .args .order .now) (s .args .places .now) (s .args .depth .now) (s .args .height .now) (s .args .long .now) (s .args .above .now) r) in
     fill-end ps (omega (arith, few)) (r .runs .paths .tree) (l .cells) (rw z at (l .inv .2 ps r))
 
 pub ladders-spec : {M : Type 1} → statement M
