@@ -1,6 +1,6 @@
 -- Numbers in decimal: their last digit, and how many digits they have. Assumes nothing.
 use mathlib.Core.Path.{_≡_, sym, ap, _∙_}
-use mathlib.Core.List.{List, [], _∷_, _++_, append-assoc}
+use mathlib.Core.List.{List, [], _∷_, _++_}
 use Prim.Native.Nat.{ℕ, zero, suc, _+_, _/_, _%_, _*_, _^_, _≤_, _<_}
 use native.Mathlib.Omega.{arith}
 use native.Mathlib.Decide.{decLt}
@@ -50,7 +50,3 @@ decimal-long x h = digits-below 20 19 x (omega arith)
 
 pub decimal-short : (x : ℕ) → x < 2 ^ 32 → length (decimal x) ≤ 10
 decimal-short x h = digits-below 20 9 x (omega arith)
-
--- two texts, one behind the other
-pub behind : (s a b : List ℕ) {t u : List ℕ} → t ≡ s ++ a → u ≡ t ++ b → u ≡ s ++ (a ++ b)
-behind s a b e h = h ∙ ap (λ l. l ++ b) e ∙ append-assoc s a b

@@ -1,3 +1,4 @@
 -- Laws of the lines.
 pub mod Printed
 pub mod Decimal
+pub mod Rows

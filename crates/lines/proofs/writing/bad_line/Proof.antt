@@ -1,4 +1,9 @@
+-- `writing::bad_line` meets its contract: a number of 64 bits has at most twenty digits. Assumes nothing.
+use mathlib.Core.Path.{refl}
+use native.Mathlib.Omega.{arith}
 use borrow.Author.Needs.{needs}
+use Rattle.lines.specs.Text.{row}
+use Rattle.lines.proofs.Decimal.{decimal-long}
 use Rattle.lines.proofs.writing.bad_line.Statement.{statement}
 use Rattle.lines.proofs.writing.bad_line.Tie as tie
 use Rattle.lines.proofs.writing.bad_line.Reads as reads
@@ -8,37 +13,31 @@ use Rattle.lines.proofs.writing.with_byte.Reads as with-byte-reads
 use Rattle.lines.proofs.writing.with_bytes.Reads as with-bytes-reads
 use Rattle.lines.proofs.writing.with_number.Reads as with-number-reads
 
--- src/writing.rt:88:28
-no-bytes-requires : tie.Need-no-bytes-requires
-no-bytes-requires c κs = search needs
-
--- src/writing.rt:88:40
-slice-aggregate-with-bytes : tie.Need-slice-aggregate-with-bytes
-slice-aggregate-with-bytes c = search needs
-
--- src/writing.rt:88:9
-with-bytes-requires : tie.Need-with-bytes-requires
-with-bytes-requires c κs = search needs
-
--- src/writing.rt:89:15
 with-number-requires : tie.Need-with-number-requires
-with-number-requires c κs = ?
+with-number-requires c κs =
+    omega (arith, c .with-bytes .ensures .0, c .before .before .no-bytes .ensures .0, decimal-long (c .before .before .before .args .k) (omega arith))
 
--- src/writing.rt:89:5
 with-byte-requires : tie.Need-with-byte-requires
-with-byte-requires c κs = ?
+with-byte-requires c κs =
+    let t = c .before in
+    omega (arith, c .with-number .ensures .0, t .with-bytes .ensures .0, t .before .before .no-bytes .ensures .0, decimal-long (t .before .before .before .args .k) (omega arith))
 
--- src/writing.rt:85:1
 returns : tie.Need-returns
-returns c = ?
+unfolding row
+returns c =
+    let n = c .before in
+    let t = n .before in (
+      omega (arith, c .with-byte .ensures .0, n .with-number .ensures .0, t .with-bytes .ensures .0, t .before .before .no-bytes .ensures .0, decimal-long (t .before .before .before .args .k) (omega arith)),
+      rw (c .with-byte .ensures .1, n .with-number .ensures .1, t .with-bytes .ensures .1, t .before .before .no-bytes .ensures .1),
+    )
 
 pub bad-line-spec : {M : Type 1} → statement M
 bad-line-spec =
     tie.close
     (tie.spec
-    no-bytes-requires
-    slice-aggregate-with-bytes
-    with-bytes-requires
+    (λ c κs. search needs)
+    (λ c. search needs)
+    (λ c κs. search needs)
     with-number-requires
     with-byte-requires
     returns)

@@ -1,4 +1,9 @@
+-- `writing::bad_list` meets its contract. Assumes nothing.
+use mathlib.Core.List.{[], _∷_}
+use native.Mathlib.Omega.{arith}
 use borrow.Author.Needs.{needs}
+use Rattle.lines.specs.Text.{decimal}
+use Rattle.lines.proofs.Rows.{three-fields}
 use Rattle.lines.proofs.writing.bad_list.Statement.{statement}
 use Rattle.lines.proofs.writing.bad_list.Tie as tie
 use Rattle.lines.proofs.writing.bad_list.Reads as reads
@@ -7,37 +12,22 @@ use Rattle.lines.proofs.writing.no_bytes.Reads as no-bytes-reads
 use Rattle.lines.proofs.writing.with_bytes.Reads as with-bytes-reads
 use Rattle.lines.proofs.writing.with_field.Reads as with-field-reads
 
--- src/writing.rt:96:28
-no-bytes-requires : tie.Need-no-bytes-requires
-no-bytes-requires c κs = search needs
-
--- src/writing.rt:96:40
-slice-aggregate-with-bytes : tie.Need-slice-aggregate-with-bytes
-slice-aggregate-with-bytes c = search needs
-
--- src/writing.rt:96:9
-with-bytes-requires : tie.Need-with-bytes-requires
-with-bytes-requires c κs = search needs
-
--- src/writing.rt:97:16
-with-field-requires : tie.Need-with-field-requires
-with-field-requires c κs = search needs
-
--- src/writing.rt:97:5
-with-field-requires-2 : tie.Need-with-field-requires-2
-with-field-requires-2 c κs = search needs
-
--- src/writing.rt:93:1
 returns : tie.Need-returns
-returns c = ?
+returns c =
+    let f = c .before in
+    let t = f .before in
+    let n = t .before .before in (
+      omega (arith, c .with-field2 .ensures .0, f .with-field .ensures .0, t .with-bytes .ensures .0, n .no-bytes .ensures .0),
+      three-fields (108 ∷ 105 ∷ 115 ∷ 116 ∷ []) (decimal (n .before .args .number)) (decimal (n .before .args .word)) (n .no-bytes .ensures .1) (t .with-bytes .ensures .1) (f .with-field .ensures .1) (c .with-field2 .ensures .1),
+    )
 
 pub bad-list-spec : {M : Type 1} → statement M
 bad-list-spec =
     tie.close
     (tie.spec
-    no-bytes-requires
-    slice-aggregate-with-bytes
-    with-bytes-requires
-    with-field-requires
-    with-field-requires-2
+    (λ c κs. search needs)
+    (λ c. search needs)
+    (λ c κs. search needs)
+    (λ c κs. search needs)
+    (λ c κs. search needs)
     returns)

@@ -1,4 +1,12 @@
+-- `writing::reply_row` meets its contract. Assumes nothing.
+use mathlib.Core.List.{[], _∷_}
+use mathlib.Core.Bool.{cond}
+use native.Mathlib.Omega.{arith}
+use lib.Dec.{eqb}
 use borrow.Author.Needs.{needs}
+use Rattle.lines.specs.Text.{dash, decimal}
+use Rattle.lines.specs.Counter.{replyRow}
+use Rattle.lines.proofs.Rows.{five-fields}
 use Rattle.lines.proofs.writing.reply_row.Statement.{statement}
 use Rattle.lines.proofs.writing.reply_row.Tie as tie
 use Rattle.lines.proofs.writing.reply_row.Reads as reads
@@ -7,42 +15,27 @@ use Rattle.lines.proofs.writing.no_bytes.Reads as no-bytes-reads
 use Rattle.lines.proofs.writing.with_class.Reads as with-class-reads
 use Rattle.lines.proofs.writing.with_field.Reads as with-field-reads
 
--- src/writing.rt:111:9
-no-bytes-requires : tie.Need-no-bytes-requires
-no-bytes-requires c κs = search needs
-
--- src/writing.rt:112:28
-with-field-requires : tie.Need-with-field-requires
-with-field-requires c κs = search needs
-
--- src/writing.rt:112:9
-with-field-requires-2 : tie.Need-with-field-requires-2
-with-field-requires-2 c κs = search needs
-
--- src/writing.rt:113:9
-with-field-requires-3 : tie.Need-with-field-requires-3
-with-field-requires-3 c κs = search needs
-
--- src/writing.rt:114:9
-with-class-requires : tie.Need-with-class-requires
-with-class-requires c κs = search needs
-
--- src/writing.rt:115:5
-with-field-requires-4 : tie.Need-with-field-requires-4
-with-field-requires-4 c κs = search needs
-
--- src/writing.rt:108:1
 returns : tie.Need-returns
-returns c = ?
+unfolding replyRow
+returns c =
+    let k = c .before in
+    let f3 = k .before in
+    let f2 = f3 .before in
+    let f1 = f2 .before in
+    let n = f1 .before in
+    let a = n .before .args in (
+      omega (arith, c .with-field4 .ensures .0, k .with-class .ensures .0, f3 .with-field3 .ensures .0, f2 .with-field2 .ensures .0, f1 .with-field .ensures .0, n .no-bytes .ensures .0),
+      five-fields (decimal (a .v)) (decimal (a .d)) (decimal (a .number)) (cond (eqb (a .number) 0) (decimal (a .word)) (dash ∷ [])) (decimal (a .cells)) (n .no-bytes .ensures .1) (f1 .with-field .ensures .1) (f2 .with-field2 .ensures .1) (f3 .with-field3 .ensures .1) (k .with-class .ensures .1) (c .with-field4 .ensures .1),
+    )
 
 pub reply-row-spec : {M : Type 1} → statement M
 reply-row-spec =
     tie.close
     (tie.spec
-    no-bytes-requires
-    with-field-requires
-    with-field-requires-2
-    with-field-requires-3
-    with-class-requires
-    with-field-requires-4
+    (λ c κs. search needs)
+    (λ c κs. search needs)
+    (λ c κs. search needs)
+    (λ c κs. search needs)
+    (λ c κs. search needs)
+    (λ c κs. search needs)
     returns)
