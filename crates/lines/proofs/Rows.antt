@@ -1,5 +1,5 @@
 -- Rows put together from the texts before them. Assumes nothing.
-use mathlib.Core.Path.{_≡_, refl, ap, _∙_}
+use mathlib.Core.Path.{_≡_, ap, _∙_}
 use mathlib.Core.List.{List, [], _∷_, _++_, append-assoc}
 use Prim.Native.Nat.{ℕ}
 use Rattle.lines.specs.Text.{comma, lineFeed, row}
@@ -8,10 +8,7 @@ use Rattle.lines.specs.Text.{comma, lineFeed, row}
 pub behind : (s a b : List ℕ) {t u : List ℕ} → t ≡ s ++ a → u ≡ t ++ b → u ≡ s ++ (a ++ b)
 behind s a b e h = h ∙ ap (λ l. l ++ b) e ∙ append-assoc s a b
 
--- one field, three fields and five, from no text on
-pub one-field : (a : List ℕ) {s t u : List ℕ} → s ≡ [] → t ≡ s ++ (a ++ comma ∷ []) → u ≡ t → u ≡ a ++ comma ∷ []
-one-field a z e h = h ∙ rw (e, z)
-
+-- three fields and five, from no text on
 pub three-fields : (a b c : List ℕ) {s t u v : List ℕ} → s ≡ [] → t ≡ s ++ (a ++ comma ∷ []) → u ≡ t ++ (b ++ comma ∷ []) → v ≡ u ++ (c ++ lineFeed ∷ []) → v ≡ row (a ∷ b ∷ c ∷ [])
 unfolding row
 three-fields a b c z e f g = rw (g, f, e, z) (simp append-assoc)

@@ -10,22 +10,23 @@ ghost use Rattle.lines.specs.Texts.{said};
 ghost use Rattle.lines.specs.Counter.{badLine, badList, headerRow, replyRow};
 
 // A text: its first `count` bytes.
-pub struct Row {
+pub struct Text {
     pub bytes: [u8; 64],
     pub count: usize,
 }
 
-fn no_bytes() -> Row
+// The empty text.
+fn no_bytes() -> Text
     ensures { λ r. ⌜ (r .count ≡ 0) × (said (r .bytes) (r .count) ≡ []) ⌝ }
 {
-    Row {
+    Text {
         bytes: [0; 64],
         count: 0,
     }
 }
 
 // The text with a byte behind it.
-fn with_byte(text: Row, b: u8) -> Row
+fn with_byte(text: Text, b: u8) -> Text
     requires { ⌜ text .count < 64 ⌝ }
     ensures { λ r. ⌜ (r .count ≡ text .count + 1) × (said (r .bytes) (r .count) ≡ said (text .bytes) (text .count) ++ b ∷ []) ⌝ }
 {
@@ -37,7 +38,7 @@ fn with_byte(text: Row, b: u8) -> Row
 }
 
 // The text with other bytes behind it.
-fn with_bytes(text: Row, more: &[u8]) -> Row
+fn with_bytes(text: Text, more: &[u8]) -> Text
     requires { ⌜ text .count + length (now more) ≤ 64 ⌝ }
     ensures { λ r. ⌜ (r .count ≡ text .count + length (now (more .entry))) × (said (r .bytes) (r .count) ≡ said (text .bytes) (text .count) ++ now (more .entry)) ⌝ }
 {
@@ -50,8 +51,8 @@ fn with_bytes(text: Row, more: &[u8]) -> Row
     r
 }
 
-// The text with a number behind it, in decimal.
-fn with_number(text: Row, x: u64) -> Row
+// The text with a number behind it, in decimal: the digits before the last by a call of itself, at most twenty calls deep.
+fn with_number(text: Text, x: u64) -> Text
     requires { ⌜ text .count + length (decimal x) ≤ 64 ⌝ }
     ensures { λ r. ⌜ (r .count ≡ text .count + length (decimal x)) × (said (r .bytes) (r .count) ≡ said (text .bytes) (text .count) ++ decimal x) ⌝ }
 {
@@ -63,7 +64,7 @@ fn with_number(text: Row, x: u64) -> Row
 }
 
 // The text with a number and a byte behind it.
-fn with_field(text: Row, x: u32, end: u8) -> Row
+fn with_field(text: Text, x: u32, end: u8) -> Text
     requires { ⌜ text .count + 11 ≤ 64 ⌝ }
     ensures { λ r. ⌜ (r .count ≤ text .count + 11) × (said (r .bytes) (r .count) ≡ said (text .bytes) (text .count) ++ (decimal x ++ end ∷ [])) ⌝ }
 {
@@ -71,7 +72,7 @@ fn with_field(text: Row, x: u32, end: u8) -> Row
 }
 
 // The text with a class and a comma behind it: `-` for a refusal.
-fn with_class(text: Row, number: u32, word: u32) -> Row
+fn with_class(text: Text, number: u32, word: u32) -> Text
     requires { ⌜ text .count + 11 ≤ 64 ⌝ }
     ensures { λ r. ⌜ (r .count ≤ text .count + 11) × (said (r .bytes) (r .count) ≡ said (text .bytes) (text .count) ++ (cond (eqb number 0) (decimal word) (dash ∷ []) ++ comma ∷ [])) ⌝ }
 {
@@ -82,7 +83,7 @@ fn with_class(text: Row, number: u32, word: u32) -> Row
 }
 
 // `line,` and the number of a bad line.
-pub fn bad_line(k: u64) -> Row
+pub fn bad_line(k: u64) -> Text
     ensures { λ r. ⌜ (r .count ≤ 64) × (said (r .bytes) (r .count) ≡ badLine k) ⌝ }
 {
     let start = with_bytes(no_bytes(), b"line,");
@@ -90,7 +91,7 @@ pub fn bad_line(k: u64) -> Row
 }
 
 // `list,` and the number and the name of a refused list.
-pub fn bad_list(number: u32, word: u32) -> Row
+pub fn bad_list(number: u32, word: u32) -> Text
     ensures { λ r. ⌜ (r .count ≤ 64) × (said (r .bytes) (r .count) ≡ badList (record { number = number; word = word })) ⌝ }
 {
     let start = with_bytes(no_bytes(), b"list,");
@@ -98,14 +99,14 @@ pub fn bad_list(number: u32, word: u32) -> Row
 }
 
 // `entry,depth,refusal,class,cells`.
-pub fn header_row() -> Row
+pub fn header_row() -> Text
     ensures { λ r. ⌜ (r .count ≤ 64) × (said (r .bytes) (r .count) ≡ headerRow) ⌝ }
 {
     with_bytes(no_bytes(), b"entry,depth,refusal,class,cells\n")
 }
 
 // A question's row: entry, depth, refusal, class or `-`, count of cells.
-pub fn reply_row(v: u32, d: u32, number: u32, word: u32, cells: u32) -> Row
+pub fn reply_row(v: u32, d: u32, number: u32, word: u32, cells: u32) -> Text
     ensures { λ r. ⌜ (r .count ≤ 64) × (said (r .bytes) (r .count) ≡ replyRow v d number word cells) ⌝ }
 {
     let start = no_bytes();

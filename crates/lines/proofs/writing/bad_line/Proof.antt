@@ -1,17 +1,10 @@
 -- `writing::bad_line` meets its contract: a number of 64 bits has at most twenty digits. Assumes nothing.
-use mathlib.Core.Path.{refl}
 use native.Mathlib.Omega.{arith}
 use borrow.Author.Needs.{needs}
 use Rattle.lines.specs.Text.{row}
 use Rattle.lines.proofs.Decimal.{decimal-long}
 use Rattle.lines.proofs.writing.bad_line.Statement.{statement}
 use Rattle.lines.proofs.writing.bad_line.Tie as tie
-use Rattle.lines.proofs.writing.bad_line.Reads as reads
-use Rattle.lines.proofs.writing.bad_line.Lts as lts
-use Rattle.lines.proofs.writing.no_bytes.Reads as no-bytes-reads
-use Rattle.lines.proofs.writing.with_byte.Reads as with-byte-reads
-use Rattle.lines.proofs.writing.with_bytes.Reads as with-bytes-reads
-use Rattle.lines.proofs.writing.with_number.Reads as with-number-reads
 
 with-number-requires : tie.Need-with-number-requires
 with-number-requires c κs =

@@ -6,11 +6,6 @@ use Rattle.lines.specs.Text.{decimal}
 use Rattle.lines.proofs.Rows.{three-fields}
 use Rattle.lines.proofs.writing.bad_list.Statement.{statement}
 use Rattle.lines.proofs.writing.bad_list.Tie as tie
-use Rattle.lines.proofs.writing.bad_list.Reads as reads
-use Rattle.lines.proofs.writing.bad_list.Lts as lts
-use Rattle.lines.proofs.writing.no_bytes.Reads as no-bytes-reads
-use Rattle.lines.proofs.writing.with_bytes.Reads as with-bytes-reads
-use Rattle.lines.proofs.writing.with_field.Reads as with-field-reads
 
 returns : tie.Need-returns
 returns c =

@@ -7,10 +7,6 @@ use Rattle.lines.specs.Text.{row}
 use Rattle.lines.specs.Counter.{headerRow}
 use Rattle.lines.proofs.writing.header_row.Statement.{statement}
 use Rattle.lines.proofs.writing.header_row.Tie as tie
-use Rattle.lines.proofs.writing.header_row.Reads as reads
-use Rattle.lines.proofs.writing.header_row.Lts as lts
-use Rattle.lines.proofs.writing.no_bytes.Reads as no-bytes-reads
-use Rattle.lines.proofs.writing.with_bytes.Reads as with-bytes-reads
 
 returns : tie.Need-returns
 unfolding row

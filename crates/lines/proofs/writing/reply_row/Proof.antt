@@ -9,11 +9,6 @@ use Rattle.lines.specs.Counter.{replyRow}
 use Rattle.lines.proofs.Rows.{five-fields}
 use Rattle.lines.proofs.writing.reply_row.Statement.{statement}
 use Rattle.lines.proofs.writing.reply_row.Tie as tie
-use Rattle.lines.proofs.writing.reply_row.Reads as reads
-use Rattle.lines.proofs.writing.reply_row.Lts as lts
-use Rattle.lines.proofs.writing.no_bytes.Reads as no-bytes-reads
-use Rattle.lines.proofs.writing.with_class.Reads as with-class-reads
-use Rattle.lines.proofs.writing.with_field.Reads as with-field-reads
 
 returns : tie.Need-returns
 unfolding replyRow

@@ -5,8 +5,6 @@ use lib.Seq.{take-suc-set}
 use borrow.Author.Needs.{needs}
 use Rattle.lines.proofs.writing.with_byte.Statement.{statement}
 use Rattle.lines.proofs.writing.with_byte.Tie as tie
-use Rattle.lines.proofs.writing.with_byte.Reads as reads
-use Rattle.lines.proofs.writing.with_byte.Lts as lts
 
 returns : tie.Need-returns
 returns c = (refl, rw add-one (take-suc-set (c .args .text .bytes) (c .args .text .count) (c .args .b) (search needs)))

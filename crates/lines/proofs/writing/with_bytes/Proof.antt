@@ -1,6 +1,6 @@
 -- `writing::with_bytes` meets its contract: the bytes passed stand behind the text. Assumes nothing.
 use mathlib.Core.Path.{_≡_, sym, ap, _∙_}
-use mathlib.Core.List.{[], _∷_, _++_, append-assoc, append-nil}
+use mathlib.Core.List.{[], _∷_, _++_, append-nil}
 use Prim.Native.Nat.{_+_, _-_, _≤_}
 use native.Mathlib.Omega.{arith}
 use native.Mathlib.Numerals.{add-one}
@@ -10,9 +10,6 @@ use Rattle.lines.specs.Texts.{said}
 use Rattle.lines.proofs.Rows.{behind}
 use Rattle.lines.proofs.writing.with_bytes.Statement.{statement}
 use Rattle.lines.proofs.writing.with_bytes.Tie as tie
-use Rattle.lines.proofs.writing.with_bytes.Reads as reads
-use Rattle.lines.proofs.writing.with_bytes.Lts as lts
-use Rattle.lines.proofs.writing.with_byte.Reads as with-byte-reads
 
 abbrev Inv-loop : tie.InvT-loop
 Inv-loop more r₀ i₀ r i = (i ≤ length more) × (r .count ≡ r₀ .count + i) × (said (r .bytes) (r .count) ≡ said (r₀ .bytes) (r₀ .count) ++ take i more)

@@ -8,10 +8,6 @@ use Rattle.lines.specs.Texts.{said}
 use Rattle.lines.proofs.Rows.{behind}
 use Rattle.lines.proofs.writing.with_class.Statement.{statement}
 use Rattle.lines.proofs.writing.with_class.Tie as tie
-use Rattle.lines.proofs.writing.with_class.Reads as reads
-use Rattle.lines.proofs.writing.with_class.Lts as lts
-use Rattle.lines.proofs.writing.with_byte.Reads as with-byte-reads
-use Rattle.lines.proofs.writing.with_field.Reads as with-field-reads
 
 returns : tie.Need-returns
 returns c = (c .with-field .ensures .0, rw (eq-eqb (c .before .before .args .number) 0 (c .before .if1 .taken)) (c .with-field .ensures .1))

@@ -7,10 +7,6 @@ use Rattle.lines.proofs.Decimal.{decimal-short}
 use Rattle.lines.proofs.Rows.{behind}
 use Rattle.lines.proofs.writing.with_field.Statement.{statement}
 use Rattle.lines.proofs.writing.with_field.Tie as tie
-use Rattle.lines.proofs.writing.with_field.Reads as reads
-use Rattle.lines.proofs.writing.with_field.Lts as lts
-use Rattle.lines.proofs.writing.with_byte.Reads as with-byte-reads
-use Rattle.lines.proofs.writing.with_number.Reads as with-number-reads
 
 with-number-requires : tie.Need-with-number-requires
 with-number-requires c κs = omega (arith, decimal-short (c .args .x) (omega arith))
