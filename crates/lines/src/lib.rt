@@ -1,1 +1,2 @@
 // The counter program's lines: reading and writing them.
+pub mod writing;
