@@ -1,2 +1,5 @@
 -- Laws of the lines.
 pub mod Printed
+pub mod Digits
+pub mod Commas
+pub mod Parting

@@ -1,8 +1,9 @@
 // What a line says.
 ghost use mathlib.Core.Path.{_≡_};
+ghost use Prim.Native.Nat.{_≤_};
 ghost use lib.ListN.{length};
 ghost use Rattle.lines.specs.Fields.{number, countOf, parentOf, questionOf};
-ghost use Rattle.lines.specs.Reads.{Reads, Asks};
+ghost use Rattle.lines.specs.Reads.{Reads, Asks, headed, NextComma};
 
 // A number that was read, if `ok`.
 pub struct Found {
@@ -44,7 +45,9 @@ pub fn read_number(field: &[u8]) -> Found
 }
 
 // Whether a line has a stated letter for its first field, and a field behind it.
-fn has_letter(line: &[u8], letter: u8) -> bool {
+fn has_letter(line: &[u8], letter: u8) -> bool
+    ensures { λ r. ⌜ r ≡ headed letter (now (line .entry)) ⌝ }
+{
     if line.len() < 2 {
         return false;
     }
@@ -78,7 +81,10 @@ pub fn read_parent(line: &[u8]) -> Found
 }
 
 // The place of the first comma from a place on, or the length.
-fn comma_from(line: &[u8], from: usize) -> usize {
+fn comma_from(line: &[u8], from: usize) -> usize
+    requires { ⌜ from ≤ length (now line) ⌝ }
+    ensures { λ r. ⌜ NextComma (now (line .entry)) from r ⌝ }
+{
     let mut i = from;
     while i < line.len() {
         if line[i] == 44 {
