@@ -19,7 +19,7 @@ unfolding value
 value-more acc [] b = refl
 value-more acc (c ∷ l) b = value-more (10 * acc + (c - 48)) l b
 
-pub digit : (b : ℕ) → 48 ≤ b → b ≤ 57 → isDigit b ≡ true
+digit : (b : ℕ) → 48 ≤ b → b ≤ 57 → isDigit b ≡ true
 digit b h k = rw (le-leb 48 b h, le-leb b 57 k)
 
 pub digit-low : (b : ℕ) → b < 48 → isDigit b ≡ false
@@ -52,7 +52,7 @@ pub tens : ℕ → ℕ
 tens zero = 1
 tens (suc i) = 10 * tens i
 
-pub tens-most : (i j : ℕ) → i ≤ j → tens i ≤ tens j
+tens-most : (i j : ℕ) → i ≤ j → tens i ≤ tens j
 unfolding tens
 tens-most zero zero h = omega arith
 tens-most zero (suc j) h = omega (arith, tens-most zero j (omega arith))
@@ -114,7 +114,7 @@ module _ (field : List ℕ) where
   pub read-other : (i : ℕ) → i < length field → isDigit (getD field i 0) ≡ false → Reads (number field) false 0
   read-other i h t = unread (undigit (ap (every isDigit) (split-at field i 0 h) ∙ every-fails isDigit (take i field) (getD field i 0) (drop (suc i) field) t))
 
-  module _ (i v : ℕ) (some : 1 ≤ length field) (few : length field ≤ 10) (past : length field ≤ i) (p : Valued field i v) where
+  module _ (i v : ℕ) (any : 1 ≤ length field) (few : length field ≤ 10) (past : length field ≤ i) (p : Valued field i v) where
     whole : take i field ≡ field
     whole = take-all i field past
 
@@ -122,13 +122,13 @@ module _ (field : List ℕ) where
     unfolding isNumber
     read-great h =
         let k : mostNumber < value 0 field = omega (arith, p .is, ap (value 0) whole) in
-        unread (rw (le-leb 1 (length field) some, le-leb (length field) 10 few, sym (ap (every isDigit) whole) ∙ p .all, lt-leb (value 0 field) mostNumber k))
+        unread (rw (le-leb 1 (length field) any, le-leb (length field) 10 few, sym (ap (every isDigit) whole) ∙ p .all, lt-leb (value 0 field) mostNumber k))
 
     pub read-whole : v ≤ mostNumber → Reads (number field) true v
     unfolding isNumber number
     read-whole h =
         let e : v ≡ value 0 field = p .is ∙ ap (value 0) whole in
-        rw (le-leb 1 (length field) some, le-leb (length field) 10 few, sym (ap (every isDigit) whole) ∙ p .all, le-leb (value 0 field) mostNumber (omega (arith, e))) (refl, e)
+        rw (le-leb 1 (length field) any, le-leb (length field) 10 few, sym (ap (every isDigit) whole) ∙ p .all, le-leb (value 0 field) mostNumber (omega (arith, e))) (refl, e)
 
 -- a field with a comma in it is no number
 pub number-comma : (f g : List ℕ) → number (f ++ (44 ∷ g)) ≡ none

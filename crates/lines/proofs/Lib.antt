@@ -3,3 +3,4 @@ pub mod Printed
 pub mod Digits
 pub mod Commas
 pub mod Parting
+pub mod Sayings
