@@ -4,3 +4,4 @@ pub mod Digits
 pub mod Commas
 pub mod Parting
 pub mod Sayings
+pub mod Questions
