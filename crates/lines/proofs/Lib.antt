@@ -1,5 +1,10 @@
 -- Laws of the lines.
-pub mod Printed
-pub mod Stepping
+pub mod Commas
+pub mod Digits
+pub mod Parting
+pub mod Sayings
+pub mod Questions
 pub mod Decimal
 pub mod Rows
+pub mod Stepping
+pub mod Printed

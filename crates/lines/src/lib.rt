@@ -1,2 +1,3 @@
 // The counter program's lines: reading and writing them.
+pub mod reading;
 pub mod writing;

@@ -1,0 +1,71 @@
+-- `reading::read_question` meets its contract. Assumes nothing.
+use mathlib.Core.Path.{sym, _∙_}
+use mathlib.Core.Logic.{inl, inr}
+use native.Mathlib.Omega.{arith}
+use borrow.Author.Needs.{needs}
+use borrow.Author.Tests.{not-false}
+use Rattle.lines.proofs.Parting.{headed-long}
+use Rattle.lines.proofs.Questions.{question-none, question-short, question-other, question-read}
+use Rattle.lines.proofs.reading.read_question.Statement.{statement}
+use Rattle.lines.proofs.reading.read_question.Tie as tie
+
+returns : tie.Need-returns
+returns c =
+    let h = c .before .has-letter in
+    question-none _ (h .result) (h .ensures) (c .if1 .taken)
+
+comma-from-requires : tie.Need-comma-from-requires
+comma-from-requires c κs =
+    let h = c .before .has-letter in
+    headed-long 81 _ (sym (h .ensures) ∙ not-false (h .result) (c .if1 .left))
+
+returns-2 : tie.Need-returns-2
+returns-2 c =
+    let k = c .before in
+    let h = k .before .before .has-letter in
+    question-short _ (h .result) (h .ensures) (k .before .if1 .left) (k .comma-from .result) (k .comma-from .ensures) (c .if2 .taken)
+
+returns-3 : tie.Need-returns-3
+returns-3 c =
+    let b = c .before .before in
+    let a = b .before .before in
+    let o = a .before .before in
+    let k = o .before in
+    let h = k .before .before .has-letter in
+    question-other _ (h .result) (h .ensures) (k .before .if1 .left) (k .comma-from .result) (k .comma-from .ensures) (omega arith)
+    (a .read-number .result .ok) (a .read-number .result .word) (a .read-number .ensures)
+    (b .read-number2 .result .ok) (b .read-number2 .result .word) (b .read-number2 .ensures)
+    (elim (c .if3 .came) [ inl t ↦ inl (t .taken) | inr t ↦ inr (t .2 .taken) ])
+
+returns-4 : tie.Need-returns-4
+returns-4 c =
+    let e = c .before .before in
+    let b = e .before .before in
+    let a = b .before .before in
+    let o = a .before .before in
+    let k = o .before in
+    let h = k .before .before .has-letter in
+    question-read _ (h .result) (h .ensures) (k .before .if1 .left) (k .comma-from .result) (k .comma-from .ensures) (omega arith)
+    (a .read-number .result .ok) (a .read-number .result .word) (a .read-number .ensures)
+    (b .read-number2 .result .ok) (b .read-number2 .result .word) (b .read-number2 .ensures)
+    (e .if3 .left) (c .if4 .left)
+
+pub read-question-spec : {M : Type 1} → statement M
+read-question-spec =
+    tie.close
+    (tie.spec
+    (λ c κs. search needs)
+    returns
+    comma-from-requires
+    returns-2
+    (λ c. search needs)
+    (λ c. search needs)
+    (λ c. search needs)
+    (λ c κs. search needs)
+    (λ c. search needs)
+    (λ c. search needs)
+    (λ c. search needs)
+    (λ c. search needs)
+    (λ c κs. search needs)
+    returns-3
+    returns-4)
