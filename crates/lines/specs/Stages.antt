@@ -53,3 +53,14 @@ onEnd (parenting m ps k) l = badLine k
 onEnd (asking ps k) [] = []
 onEnd (asking ps k) (b ∷ l) = badLine k
 onEnd ended l = []
+
+-- the number of the line that is read next
+unfoldable pub lineNumber : Stage → ℕ
+lineNumber counting = 1
+lineNumber (parenting m ps k) = k
+lineNumber (asking ps k) = k
+lineNumber ended = 0
+
+-- the longest line of a form that the program knows: `Q,` and two numbers of ten digits
+abbrev pub mostBytes : ℕ
+mostBytes = 23
