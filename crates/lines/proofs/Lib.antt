@@ -8,3 +8,4 @@ pub mod Decimal
 pub mod Rows
 pub mod Stepping
 pub mod Printed
+pub mod Overlong

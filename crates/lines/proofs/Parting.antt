@@ -48,6 +48,11 @@ module _ (sep : ℕ) where
   parted-join [] g h = parted-at sep g refl
   parted-join (b ∷ f) g h = parted-by b (f ++ (sep ∷ g)) f (parted sep g) (h .0) (parted-join f g (h .1))
 
+  -- a plain list lengthens the first part
+  pub parted-onto : (l rest h : List ℕ) (t : List (List ℕ)) → Plain l → parted sep rest ≡ h ∷ t → parted sep (l ++ rest) ≡ (l ++ h) ∷ t
+  parted-onto [] rest h t p e = e
+  parted-onto (b ∷ l) rest h t p e = parted-by b (l ++ rest) (l ++ h) t (p .0) (parted-onto l rest h t (p .1) e)
+
   -- a list is plain, or has a first separator
   pub record Join (l : List ℕ) : Type 0 where
     pub front : List ℕ

@@ -30,16 +30,16 @@ reads-some (some x) ok w t r = ap some (sym (r .1))
 abbrev pub both : Option ℕ → Option ℕ → Option Question
 both a b = bind a (λ v. Option·map (λ d. record { entry = v; depth = d }) b)
 
-both-none : (a : Option ℕ) → both a none ≡ none
+pub both-none : (a : Option ℕ) → both a none ≡ none
 unfolding bind
 both-none none = refl
 both-none (some v) = refl
 
-asked-plain : (f : List ℕ) → Plain comma f → asked (fields f) ≡ none
+pub asked-plain : (f : List ℕ) → Plain comma f → asked (fields f) ≡ none
 unfolding asked
 asked-plain f h = rw (parted-plain comma f h)
 
-asked-join : (f g : List ℕ) → Plain comma f → asked (fields (f ++ (comma ∷ g))) ≡ both (number f) (number g)
+pub asked-join : (f g : List ℕ) → Plain comma f → asked (fields (f ++ (comma ∷ g))) ≡ both (number f) (number g)
 unfolding asked
 asked-join f g h = rw (parted-join comma f g h) (go (plain-or comma g))
   where
@@ -49,7 +49,7 @@ asked-join f g h = rw (parted-join comma f g h) (go (plain-or comma g))
         let (h, hs, e) = parted-some comma (j .back) in
         rw (j .is, parted-join comma (j .front) (j .back) (j .plain), e, number-comma (j .front) (j .back)) (sym (both-none (number f)))
 
-question-is : (line : List ℕ) → questionOf line ≡ cond (headed 81 line) (asked (fields (drop 2 line))) none
+pub question-is : (line : List ℕ) → questionOf line ≡ cond (headed 81 line) (asked (fields (drop 2 line))) none
 unfolding questionOf asked
 question-is line = headed-read 81 (λ e. omega arith) asked refl line
 

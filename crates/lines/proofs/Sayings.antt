@@ -25,7 +25,7 @@ pub part-rest : (a : ℕ) (line : List ℕ) → part a (length line) line ≡ dr
 part-rest a line = take-all (length line - a) (drop a line) (omega (arith, length-drop a line))
 
 -- `N,count`
-count-is : (line : List ℕ) → countOf line ≡ cond (headed 78 line) (number (drop 2 line)) none
+pub count-is : (line : List ℕ) → countOf line ≡ cond (headed 78 line) (number (drop 2 line)) none
 unfolding countOf single bind
 count-is line =
     headed-read 78 (λ e. omega arith) (λ fs. bind (single fs) number) refl line
@@ -48,7 +48,7 @@ parent-comma [] (b ∷ g) = number-comma [] (b ∷ g)
 parent-comma (b ∷ []) g = number-comma (b ∷ []) g
 parent-comma (b ∷ c ∷ f) g = number-comma (b ∷ c ∷ f) g
 
-parent-is : (line : List ℕ) → parentOf line ≡ cond (headed 80 line) (parentField (drop 2 line)) none
+pub parent-is : (line : List ℕ) → parentOf line ≡ cond (headed 80 line) (parentField (drop 2 line)) none
 unfolding parentOf single bind
 parent-is line =
     headed-read 80 (λ e. omega arith) (λ fs. bind (single fs) parentField) refl line
