@@ -1,0 +1,2 @@
+-- What the counter program does at a line's end.
+pub mod Turns
