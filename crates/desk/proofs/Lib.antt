@@ -1,2 +1,3 @@
 -- Laws of a line's end.
 pub mod Ends
+pub mod Lists

@@ -16,7 +16,7 @@ pub struct Text {
 }
 
 // The empty text.
-fn no_bytes() -> Text
+pub fn nothing() -> Text
     ensures { λ r. ⌜ (r .count ≡ 0) × (said (r .bytes) (r .count) ≡ []) ⌝ }
 {
     Text {
@@ -86,7 +86,7 @@ fn with_class(text: Text, number: u32, word: u32) -> Text
 pub fn bad_line(k: u64) -> Text
     ensures { λ r. ⌜ (r .count ≤ 64) × (said (r .bytes) (r .count) ≡ badLine k) ⌝ }
 {
-    let start = with_bytes(no_bytes(), b"line,");
+    let start = with_bytes(nothing(), b"line,");
     with_byte(with_number(start, k), b'\n')
 }
 
@@ -94,7 +94,7 @@ pub fn bad_line(k: u64) -> Text
 pub fn bad_list(number: u32, word: u32) -> Text
     ensures { λ r. ⌜ (r .count ≤ 64) × (said (r .bytes) (r .count) ≡ badList (record { number = number; word = word })) ⌝ }
 {
-    let start = with_bytes(no_bytes(), b"list,");
+    let start = with_bytes(nothing(), b"list,");
     with_field(with_field(start, number, b','), word, b'\n')
 }
 
@@ -102,14 +102,14 @@ pub fn bad_list(number: u32, word: u32) -> Text
 pub fn header_row() -> Text
     ensures { λ r. ⌜ (r .count ≤ 64) × (said (r .bytes) (r .count) ≡ headerRow) ⌝ }
 {
-    with_bytes(no_bytes(), b"entry,depth,refusal,class,cells\n")
+    with_bytes(nothing(), b"entry,depth,refusal,class,cells\n")
 }
 
 // A question's row: entry, depth, refusal, class or `-`, count of cells.
 pub fn reply_row(v: u32, d: u32, number: u32, word: u32, cells: u32) -> Text
     ensures { λ r. ⌜ (r .count ≤ 64) × (said (r .bytes) (r .count) ≡ replyRow v d number word cells) ⌝ }
 {
-    let start = no_bytes();
+    let start = nothing();
     let asked = with_field(with_field(start, v, b','), d, b',');
     let told = with_field(asked, number, b',');
     let class = with_class(told, number, word);

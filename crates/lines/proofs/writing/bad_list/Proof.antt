@@ -12,8 +12,8 @@ returns c =
     let f = c .before in
     let t = f .before in
     let n = t .before .before in (
-      omega (arith, c .with-field2 .ensures .0, f .with-field .ensures .0, t .with-bytes .ensures .0, n .no-bytes .ensures .0),
-      three-fields (108 ∷ 105 ∷ 115 ∷ 116 ∷ []) (decimal (n .before .args .number)) (decimal (n .before .args .word)) (n .no-bytes .ensures .1) (t .with-bytes .ensures .1) (f .with-field .ensures .1) (c .with-field2 .ensures .1),
+      omega (arith, c .with-field2 .ensures .0, f .with-field .ensures .0, t .with-bytes .ensures .0, n .nothing .ensures .0),
+      three-fields (108 ∷ 105 ∷ 115 ∷ 116 ∷ []) (decimal (n .before .args .number)) (decimal (n .before .args .word)) (n .nothing .ensures .1) (t .with-bytes .ensures .1) (f .with-field .ensures .1) (c .with-field2 .ensures .1),
     )
 
 pub bad-list-spec : {M : Type 1} → statement M

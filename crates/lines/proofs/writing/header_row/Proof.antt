@@ -11,8 +11,8 @@ use Rattle.lines.proofs.writing.header_row.Tie as tie
 returns : tie.Need-returns
 unfolding row
 returns c = (
-  omega (arith, c .with-bytes .ensures .0, c .before .before .no-bytes .ensures .0),
-  c .with-bytes .ensures .1 ∙ ap (λ l. l ++ headerRow) (c .before .before .no-bytes .ensures .1),
+  omega (arith, c .with-bytes .ensures .0, c .before .before .nothing .ensures .0),
+  c .with-bytes .ensures .1 ∙ ap (λ l. l ++ headerRow) (c .before .before .nothing .ensures .1),
 )
 
 pub header-row-spec : {M : Type 1} → statement M

@@ -1,0 +1,73 @@
+// Where the program stands, from line to line.
+ghost use mathlib.Core.Path.{_≡_};
+ghost use mathlib.Core.List.{List, []};
+ghost use Prim.Native.Nat.{ℕ, _+_, _≤_};
+ghost use lib.ListN.{length, take};
+ghost use Rattle.lines.specs.Texts.{said};
+ghost use Rattle.lines.specs.Counter.{mostListed};
+ghost use Rattle.lines.specs.Stages.{listed};
+ghost use Rattle.desk.specs.Stand.{Turned, Room};
+use crate::turns::judge_list;
+use lines::writing::Text;
+
+// The stage (0 before the count, 1 in the list, 2 before a question, 3 at the end), the next line's number, the entries announced and those read.
+pub struct Desk {
+    pub stage: u32,
+    pub line: u64,
+    pub count: u32,
+    pub filled: u32,
+}
+
+// Where the program stands after a line, and what it printed.
+pub struct Stepped {
+    pub desk: Desk,
+    pub text: Text,
+}
+
+// The same at another stage.
+fn at_stage(desk: Desk, stage: u32) -> Desk
+    ensures { λ r. ⌜ (r .stage ≡ stage) × (r .line ≡ desk .line) × (r .count ≡ desk .count) × (r .filled ≡ desk .filled) ⌝ }
+{
+    Desk {
+        stage,
+        line: desk.line,
+        count: desk.count,
+        filled: desk.filled,
+    }
+}
+
+// The list so far: judged once it is whole.
+pub(crate) fn list_so_far(
+    desk: Desk,
+    parents: &[u32],
+    table: &mut [u32],
+    space: &mut [u32],
+) -> Stepped
+    ensures { λ r. ⌜ ((m : ℕ) (ps : List ℕ) → desk .count ≡ length ps + m → desk .count ≤ mostListed → desk .filled ≡ length ps → take (length ps) (now (parents .entry)) ≡ ps → Room (length (now (parents .entry))) (length (now (table .entry))) (length (now (space .entry))) → Turned (listed m ps (desk .line)) (r .desk .stage) (r .desk .line) (r .desk .count) (r .desk .filled) (now (parents .entry)) (now (table .exit)) (said (r .text .bytes) (r .text .count))) ⌝ }
+{
+    if desk.filled < desk.count {
+        return Stepped {
+            desk: at_stage(desk, 1),
+            text: lines::writing::nothing(),
+        };
+    }
+    let n = desk.count as usize;
+    if parents.len() < n {
+        return Stepped {
+            desk: at_stage(desk, 3),
+            text: lines::writing::nothing(),
+        };
+    }
+    let judged = judge_list(&parents[0..n], table, space);
+    let text = judged.text;
+    if judged.ok {
+        return Stepped {
+            desk: at_stage(desk, 2),
+            text,
+        };
+    }
+    Stepped {
+        desk: at_stage(desk, 3),
+        text,
+    }
+}
