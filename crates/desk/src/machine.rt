@@ -1,14 +1,20 @@
 // Where the program stands, from line to line.
 ghost use mathlib.Core.Path.{_≡_};
 ghost use mathlib.Core.List.{List, []};
-ghost use Prim.Native.Nat.{ℕ, _+_, _≤_};
+ghost use Prim.Native.Nat.{ℕ, _+_, _≤_, _<_};
 ghost use lib.ListN.{length, take};
 ghost use Rattle.lines.specs.Texts.{said};
 ghost use Rattle.lines.specs.Counter.{mostListed};
-ghost use Rattle.lines.specs.Stages.{listed};
-ghost use Rattle.desk.specs.Stand.{Turned, Room};
+ghost use Rattle.lines.specs.Stages.{counting, parenting, asking, listed, onLine};
+ghost use Rattle.desk.specs.Stand.{Stands, Turned, Room};
+use crate::turns::answer_row;
 use crate::turns::judge_list;
+use base::Node;
+use lines::reading::read_count;
+use lines::reading::read_parent;
+use lines::reading::read_question;
 use lines::writing::Text;
+use lines::writing::bad_line;
 
 // The stage (0 before the count, 1 in the list, 2 before a question, 3 at the end), the next line's number, the entries announced and those read.
 pub struct Desk {
@@ -68,6 +74,67 @@ pub(crate) fn list_so_far(
     }
     Stepped {
         desk: at_stage(desk, 3),
+        text,
+    }
+}
+
+// A line before the count.
+pub(crate) fn count_line(
+    desk: Desk,
+    line: &[u8],
+    parents: &[u32],
+    table: &mut [u32],
+    space: &mut [u32],
+) -> Stepped
+    ensures { λ r. ⌜ (Stands counting (desk .stage) (desk .line) (desk .count) (desk .filled) (now (parents .entry)) (now (table .entry)) → Room (length (now (parents .entry))) (length (now (table .entry))) (length (now (space .entry))) → Turned (onLine counting (now (line .entry))) (r .desk .stage) (r .desk .line) (r .desk .count) (r .desk .filled) (now (parents .entry)) (now (table .exit)) (said (r .text .bytes) (r .text .count))) ⌝ }
+{
+    let found = read_count(line);
+    if !found.ok {
+        return Stepped {
+            desk: at_stage(desk, 3),
+            text: bad_line(1),
+        };
+    }
+    if 512 < found.word {
+        return Stepped {
+            desk: at_stage(desk, 3),
+            text: bad_line(1),
+        };
+    }
+    let next = Desk {
+        stage: 1,
+        line: 2,
+        count: found.word,
+        filled: 0,
+    };
+    list_so_far(next, parents, table, space)
+}
+
+// A question's line.
+pub(crate) fn question_line(desk: Desk, line: &[u8], table: &[u32]) -> Stepped
+    ensures { λ r. ⌜ ((ps : List ℕ) (k : ℕ) (parents : List ℕ) → Stands (asking ps k) (desk .stage) (desk .line) (desk .count) (desk .filled) parents (now (table .entry)) → k < 18446744073709551615 → Turned (onLine (asking ps k) (now (line .entry))) (r .desk .stage) (r .desk .line) (r .desk .count) (r .desk .filled) parents (now (table .entry)) (said (r .text .bytes) (r .text .count))) ⌝ }
+{
+    let asked = read_question(line);
+    if !asked.ok {
+        return Stepped {
+            desk: at_stage(desk, 3),
+            text: bad_line(desk.line),
+        };
+    }
+    if 18446744073709551615 <= desk.line {
+        return Stepped {
+            desk: at_stage(desk, 3),
+            text: bad_line(desk.line),
+        };
+    }
+    let text = answer_row(table, desk.count as usize, Node(asked.entry), asked.depth);
+    Stepped {
+        desk: Desk {
+            stage: 2,
+            line: desk.line + 1,
+            count: desk.count,
+            filled: desk.filled,
+        },
         text,
     }
 }
