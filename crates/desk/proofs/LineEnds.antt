@@ -4,7 +4,9 @@ use mathlib.Core.List.{List, [], _∷_, _++_}
 use mathlib.Core.Bool.{Bool, true, false, not}
 use mathlib.Core.Option.{Option, none, some, Option·elim}
 use Prim.Native.Nat.{ℕ, suc, _≤_, _<_}
-use lib.ListN.{length}
+use native.Mathlib.Omega.{arith}
+use lib.ListN.{length, take, set, length-append}
+use lib.Seq.{take-suc-set}
 use borrow.Author.Tests.{lt-ltb, le-ltb}
 use Rattle.base.proofs.Lists.{clash}
 use Rattle.lines.specs.Fields.{countOf, parentOf, Question, questionOf}
@@ -54,3 +56,18 @@ module _ (l : List ℕ) (stage line count filled : ℕ) (parents table text : Li
   pub question-fine : (ps : List ℕ) (k : ℕ) (q : Question) → questionOf l ≡ some q → text ≡ answerRow ps q → Stands (asking ps (suc k)) stage line count filled parents table → Turned (onLine (asking ps k) l) stage line count filled parents table text
   unfolding onLine Option·elim
   question-fine ps k q e t s = rw e (record { printed = t; stands = s })
+
+-- a test that was passed, and one that was not
+pub is-yes : (r : Bool) → not r ≡ false → r ≡ true
+is-yes true t = refl
+is-yes false t = clash (sym t)
+
+pub is-no : (r : Bool) → not r ≡ true → r ≡ false
+is-no true t = clash t
+is-no false t = refl
+
+-- one parent more, in its place
+pub stored : (ps parents : List ℕ) (at p : ℕ) → at ≡ length ps → at < length parents → take (length ps) parents ≡ ps → take (length (ps ++ (p ∷ []))) (set parents at p) ≡ ps ++ (p ∷ [])
+stored ps parents at p e h t =
+    let z : length (ps ++ (p ∷ [])) ≡ suc at = omega (arith, length-append ps (p ∷ [])) in
+    ap (λ k. take k (set parents at p)) z ∙ take-suc-set parents at p h ∙ ap (λ x. x ++ (p ∷ [])) (ap (λ k. take k parents) e ∙ t)

@@ -1,6 +1,7 @@
 // Where the program stands, from line to line.
 ghost use mathlib.Core.Path.{_≡_};
 ghost use mathlib.Core.List.{List, []};
+ghost use mathlib.Core.Bool.{true};
 ghost use Prim.Native.Nat.{ℕ, _+_, _≤_, _<_};
 ghost use lib.ListN.{length, take};
 ghost use Rattle.lines.specs.Texts.{said};
@@ -137,4 +138,54 @@ pub(crate) fn question_line(desk: Desk, line: &[u8], table: &[u32]) -> Stepped
         },
         text,
     }
+}
+
+// Whether there is a number for the next line, and a place for the next parent.
+fn has_place(desk: Desk, places: usize) -> bool
+    ensures yes { λ r. ⌜ (r ≡ true → (desk .line < 18446744073709551615) × (desk .filled < desk .count) × (desk .filled < places)) ⌝ }
+    ensures always { λ r. ⌜ (desk .line < 18446744073709551615 → desk .filled < desk .count → desk .filled < places → r ≡ true) ⌝ }
+{
+    if 18446744073709551615 <= desk.line {
+        return false;
+    }
+    if desk.count <= desk.filled {
+        return false;
+    }
+    if places <= desk.filled as usize {
+        return false;
+    }
+    true
+}
+
+// A parent's line.
+pub(crate) fn parent_line(
+    desk: Desk,
+    line: &[u8],
+    parents: &mut [u32],
+    table: &mut [u32],
+    space: &mut [u32],
+) -> Stepped
+    ensures { λ r. ⌜ ((m : ℕ) (ps : List ℕ) (k : ℕ) → Stands (parenting m ps k) (desk .stage) (desk .line) (desk .count) (desk .filled) (now (parents .entry)) (now (table .entry)) → k < 18446744073709551615 → Room (length (now (parents .entry))) (length (now (table .entry))) (length (now (space .entry))) → Turned (onLine (parenting m ps k) (now (line .entry))) (r .desk .stage) (r .desk .line) (r .desk .count) (r .desk .filled) (now (parents .exit)) (now (table .exit)) (said (r .text .bytes) (r .text .count))) ⌝ }
+{
+    let found = read_parent(line);
+    if !found.ok {
+        return Stepped {
+            desk: at_stage(desk, 3),
+            text: bad_line(desk.line),
+        };
+    }
+    if !has_place(desk, parents.len()) {
+        return Stepped {
+            desk: at_stage(desk, 3),
+            text: bad_line(desk.line),
+        };
+    }
+    parents[desk.filled as usize] = found.word;
+    let next = Desk {
+        stage: 1,
+        line: desk.line + 1,
+        count: desk.count,
+        filled: desk.filled + 1,
+    };
+    list_so_far(next, parents, table, space)
 }
