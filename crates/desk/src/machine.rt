@@ -6,7 +6,7 @@ ghost use Prim.Native.Nat.{ℕ, _+_, _≤_, _<_};
 ghost use lib.ListN.{length, take};
 ghost use Rattle.lines.specs.Texts.{said};
 ghost use Rattle.lines.specs.Counter.{mostListed};
-ghost use Rattle.lines.specs.Stages.{counting, parenting, asking, listed, onLine};
+ghost use Rattle.lines.specs.Stages.{Stage, counting, parenting, asking, listed, onLine};
 ghost use Rattle.desk.specs.Stand.{Stands, Turned, Room};
 use crate::turns::answer_row;
 use crate::turns::judge_list;
@@ -188,4 +188,29 @@ pub(crate) fn parent_line(
         filled: desk.filled + 1,
     };
     list_so_far(next, parents, table, space)
+}
+
+// A whole line, at any stage.
+pub(crate) fn whole_line(
+    desk: Desk,
+    line: &[u8],
+    parents: &mut [u32],
+    table: &mut [u32],
+    space: &mut [u32],
+) -> Stepped
+    ensures { λ r. ⌜ ((s : Stage) → Stands s (desk .stage) (desk .line) (desk .count) (desk .filled) (now (parents .entry)) (now (table .entry)) → desk .line < 18446744073709551615 → Room (length (now (parents .entry))) (length (now (table .entry))) (length (now (space .entry))) → Turned (onLine s (now (line .entry))) (r .desk .stage) (r .desk .line) (r .desk .count) (r .desk .filled) (now (parents .exit)) (now (table .exit)) (said (r .text .bytes) (r .text .count))) ⌝ }
+{
+    if desk.stage == 0 {
+        return count_line(desk, line, parents, table, space);
+    }
+    if desk.stage == 1 {
+        return parent_line(desk, line, parents, table, space);
+    }
+    if desk.stage == 2 {
+        return question_line(desk, line, table);
+    }
+    Stepped {
+        desk,
+        text: lines::writing::nothing(),
+    }
 }
