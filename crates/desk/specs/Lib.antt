@@ -1,3 +1,4 @@
--- What the counter program does at a line's end.
+-- The counter program line by line, and byte by byte.
 pub mod Turns
 pub mod Stand
+pub mod Feeding

@@ -1,3 +1,3 @@
-// The counter program at a line's end: the list once it is whole, and each question.
+// The counter program line by line: what each whole line prints, and where the program then stands.
 mod machine;
 mod turns;
