@@ -1,4 +1,5 @@
-// The passes that lay the sections of the table, from arrays by preorder position. They are public for `prepare` alone, which meets what each requires.
+// The passes that lay the sections of the table, from arrays by preorder position. They are public for `layout` and
+// `prepare` alone, which meet what each requires.
 pub mod grouping;
 pub mod jumps;
 pub mod kinds;
