@@ -10,11 +10,12 @@ use native.Mathlib.Decide.{decLe}
 use lib.ListN.{length}
 use borrow.Author.Tests.{le-leb, lt-leb}
 use Rattle.base.specs.Numbers.{Outcome, accepted, unknown, tooDeep}
-use Rattle.tree.specs.Parents.{topMark, depth}
+use Rattle.tree.specs.Parents.{topMark, up, depth}
 use Rattle.tree.specs.Level.{LevelAncestor, levelAncestor}
 use Rattle.tree.specs.Faults.{Tree}
-use Rattle.tree.specs.Questions.{known, classOf}
+use Rattle.tree.specs.Questions.{known, classOf, climbOf}
 use Rattle.tree.proofs.Depths.{level-sound, level-complete, level-defined, level-deep}
+use Rattle.tree.proofs.Climbing.{up-from}
 use Rattle.tree.proofs.Intervals.{ancestor-in}
 
 -- the three cases of a level lookup
@@ -75,3 +76,60 @@ module _ (ps : List ℕ) (small : length ps ≤ topMark) (tree : Tree ps) (v d :
       go (inl h) = omega (arith, ap (λ o. o .number) (class-unknown h))
       go (inr (inl (h, b))) = omega (arith, ap (λ o. o .number) (class-deep h b))
       go (inr (inr (u, l))) = omega (arith, ap (λ o. o .number) (class-ancestor u l))
+
+-- climbing k up: 7 means no entry, 8 an entry with none k climbs above it, 0 that one, and no other number comes
+module _ (ps : List ℕ) (v k : ℕ) where
+  abbrev ClimbCases : Type 0
+  ClimbCases = (length ps ≤ v) ⊎ (((v < length ps) × (up ps k v ≡ none)) ⊎ ((u : ℕ) × (up ps k v ≡ some u)))
+
+  climb-unknown : length ps ≤ v → climbOf ps v k ≡ unknown v
+  unfolding climbOf
+  climb-unknown h = rw (le-leb (length ps) v h)
+
+  climb-deep : v < length ps → up ps k v ≡ none → climbOf ps v k ≡ tooDeep v
+  unfolding climbOf Option·elim
+  climb-deep h e = rw (lt-leb (length ps) v h, e)
+
+  climb-found : (u : ℕ) → up ps k v ≡ some u → climbOf ps v k ≡ accepted u
+  unfolding climbOf Option·elim
+  climb-found u e = rw (lt-leb (length ps) v (up-from ps k v u e), e)
+
+  climb-cases : ClimbCases
+  climb-cases = go (decLe (length ps) v) (up ps k v) refl
+    where
+      go : Dec (length ps ≤ v) → (o : Option ℕ) → up ps k v ≡ o → ClimbCases
+      go (yes h) o e = inl h
+      go (no h) none e = inr (inl (omega arith, e))
+      go (no h) (some u) e = inr (inr (u, e))
+
+  pub climb-unknown-iff : (climbOf ps v k .number ≡ 7) ↔ (length ps ≤ v)
+  climb-unknown-iff = (λ e. go e climb-cases, λ h. ap (λ o. o .number) (climb-unknown h))
+    where
+      go : climbOf ps v k .number ≡ 7 → ClimbCases → length ps ≤ v
+      go e (inl h) = h
+      go e (inr (inl (h, n))) = absurd (omega (arith, ap (λ o. o .number) (climb-deep h n)))
+      go e (inr (inr (u, r))) = absurd (omega (arith, ap (λ o. o .number) (climb-found u r)))
+
+  pub climb-deep-iff : (climbOf ps v k .number ≡ 8) ↔ ((v < length ps) × (up ps k v ≡ none))
+  climb-deep-iff = (λ e. go e climb-cases, λ (h, n). ap (λ o. o .number) (climb-deep h n))
+    where
+      go : climbOf ps v k .number ≡ 8 → ClimbCases → (v < length ps) × (up ps k v ≡ none)
+      go e (inl h) = absurd (omega (arith, ap (λ o. o .number) (climb-unknown h)))
+      go e (inr (inl h)) = h
+      go e (inr (inr (u, r))) = absurd (omega (arith, ap (λ o. o .number) (climb-found u r)))
+
+  pub climb-iff : (u : ℕ) → (climbOf ps v k ≡ accepted u) ↔ (up ps k v ≡ some u)
+  climb-iff u = (λ e. go e climb-cases, climb-found u)
+    where
+      go : climbOf ps v k ≡ accepted u → ClimbCases → up ps k v ≡ some u
+      go e (inl h) = absurd (omega (arith, ap (λ o. o .number) (sym e ∙ climb-unknown h)))
+      go e (inr (inl (h, n))) = absurd (omega (arith, ap (λ o. o .number) (sym e ∙ climb-deep h n)))
+      go e (inr (inr (w, r))) = r ∙ ap some (ap (λ o. o .word) (sym (climb-found w r) ∙ e))
+
+  pub climb-never-broken : climbOf ps v k .number ≡ 9 → ⊥
+  climb-never-broken e = go climb-cases
+    where
+      go : ClimbCases → ⊥
+      go (inl h) = omega (arith, ap (λ o. o .number) (climb-unknown h))
+      go (inr (inl (h, n))) = omega (arith, ap (λ o. o .number) (climb-deep h n))
+      go (inr (inr (u, r))) = omega (arith, ap (λ o. o .number) (climb-found u r))
