@@ -32,7 +32,7 @@ pub struct Stepped {
 }
 
 // The same at another stage.
-fn at_stage(desk: Desk, stage: u32) -> Desk
+pub(crate) fn at_stage(desk: Desk, stage: u32) -> Desk
     ensures { λ r. ⌜ (r .stage ≡ stage) × (r .line ≡ desk .line) × (r .count ≡ desk .count) × (r .filled ≡ desk .filled) ⌝ }
 {
     Desk {
