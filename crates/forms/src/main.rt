@@ -27,19 +27,19 @@ fn piece(
     fed
 }
 
-// Gives an input, cut in its middle, and its end.
-fn answer(
+// Gives an input, cut in its middle.
+fn halves(
     input: &[u8],
     line: &mut [u8],
     out: &mut [u8],
     parents: &mut [u32],
     table: &mut [u32],
     space: &mut [u32],
-) {
+) -> Progress {
     let cut = input.len() / 2;
-    let half = piece(start(), 0, &input[..cut], line, out, parents, table, space);
+    let half = piece(start(), 0, &input[0..cut], line, out, parents, table, space);
     let desk = half.desk;
-    let whole = piece(
+    piece(
         desk,
         half.held,
         &input[cut..],
@@ -48,9 +48,21 @@ fn answer(
         parents,
         table,
         space,
-    );
-    let last = whole.desk;
-    let n = finish(last, whole.held, out);
+    )
+}
+
+// Gives an input and its end.
+fn answer(
+    input: &[u8],
+    line: &mut [u8],
+    out: &mut [u8],
+    parents: &mut [u32],
+    table: &mut [u32],
+    space: &mut [u32],
+) {
+    let fed = halves(input, line, out, parents, table, space);
+    let desk = fed.desk;
+    let n = finish(desk, fed.held, out);
     io::write_all(STDOUT_FILENO, &out[..n]);
     io::write_all(STDOUT_FILENO, b";\n");
 }
