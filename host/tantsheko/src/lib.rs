@@ -1,0 +1,2 @@
+//! The proved class tree for Rust.
+pub mod ffi;
