@@ -35,7 +35,7 @@ pub fn groups(order: &[u32], depth: &[u32], size: &[u32], above: &[u32], cells: 
         next = Position(at.0 + 1);
         if group_root(size, above, at) {
             cells[cell] = at.0;
-            cells[cell + 1] = shapes::number(depth, at.0 as usize, size[at.0 as usize] as usize);
+            cells[cell + 1] = shapes::number(depth, at, size[at.0 as usize] as usize);
             cells[cell + 2] = parent_word(order, above, at);
             cell += 3;
         }

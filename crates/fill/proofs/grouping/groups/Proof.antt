@@ -47,28 +47,28 @@ group-root-requires c κs =
     let (ps, m) = s .pre .0 in
     ((ps, m .families), omega arith)
 
-cast-number-3 : tie.Need-cast-number-3 Inv-loop μ-loop
-cast-number-3 c = omega (arith, c .shared-slice-known5 .given (c .before .before .before .before .before .before .before .before .loop .next .0))
+cast-number-2 : tie.Need-cast-number-2 Inv-loop μ-loop
+cast-number-2 c = omega (arith, c .shared-slice-known5 .given (c .before .before .before .before .before .before .before .loop .next .0))
 
 slice-write-cells-2 : tie.Need-slice-write-cells-2 Inv-loop μ-loop
 slice-write-cells-2 c =
-    let l = c .before .before .before .before .before .before .before .before .before .loop in
+    let l = c .before .before .before .before .before .before .before .before .loop in
     omega (arith, length-set (l .cells) (l .cell) (l .next .0))
 
 slice-write-cells-3 : tie.Need-slice-write-cells-3 Inv-loop μ-loop
 slice-write-cells-3 c =
-    let l = c .before .before .before .before .before .before .before .before .before .before .loop in
+    let l = c .before .before .before .before .before .before .before .before .before .loop in
     omega (arith, length-set (set (l .cells) (l .cell) (l .next .0)) (l .cell + 1) (c .before .number .result), length-set (l .cells) (l .cell) (l .next .0))
 
 parent-word-requires : tie.Need-parent-word-requires Inv-loop μ-loop
 parent-word-requires c κs =
-    let s = c .before .before .before .before .before .before .before .before .before .before .before .before .before .before .before .before .before .before .before in
+    let s = c .before .before .before .before .before .before .before .before .before .before .before .before .before .before .before .before .before .before in
     let (ps, m) = s .pre .0 in
     ((ps, climbs-from ps (s .args .order .now) (s .args .depth .now) (s .args .size .now) (s .args .above .now) m), omega arith)
 
 loop-again : tie.Need-loop-again Inv-loop μ-loop
 loop-again c =
-    let turn = c .before .before .before .before .before .before in
+    let turn = c .before .before .before .before .before in
     let l = turn .before .before .before .before .loop in
     let s = turn .before .before .before .before .before .before .before .before .before .before .before .before .before .before in (
       omega arith,
@@ -79,7 +79,7 @@ loop-again c =
         used = omega arith;
       },
       λ ps m.
-          let e = sym (turn .group-root .ensures ps (m .families)) ∙ c .before .before .before .before .before .if2 .taken in
+          let e = sym (turn .group-root .ensures ps (m .families)) ∙ c .before .before .before .before .if2 .taken in
           let k = group-size ps (s .args .order .now) (s .args .depth .now) (s .args .size .now) (s .args .above .now) m (l .next .0) (l .cell) (l .cells) (omega arith) (l .inv .2 ps m) in
           let q = group-depths ps (s .args .order .now) (s .args .depth .now) (s .args .size .now) (s .args .above .now) m (l .next .0) (l .cell) (l .cells) (omega arith) (l .inv .2 ps m) in
           let b = group-small ps (s .args .order .now) (s .args .depth .now) (s .args .size .now) (s .args .above .now) m (l .next .0) (l .cell) (l .cells) (omega arith) (l .inv .2 ps m) e in
@@ -123,8 +123,7 @@ groups-spec =
     (λ c. search needs)
     (λ c. search needs)
     (λ c. search needs)
-    (λ c. search needs)
-    cast-number-3
+    cast-number-2
     (λ c κs. search needs)
     (λ c. search needs)
     (λ c. search needs)
