@@ -1,5 +1,13 @@
 //! Trees of the kinds of the trials.
-pub const KINDS: [&str; 7] = ["chain", "star", "random", "caterpillar", "binary", "broom", "deep"];
+pub const KINDS: [&str; 7] = [
+    "chain",
+    "star",
+    "random",
+    "caterpillar",
+    "binary",
+    "broom",
+    "deep",
+];
 
 /// The next number of a fixed sequence (splitmix64).
 pub fn next(seed: &mut u64) -> u64 {
@@ -22,9 +30,21 @@ pub fn make(kind: usize, n: usize, seed: u64, permuted: bool) -> Vec<u32> {
                 0 => i - 1,
                 1 => 0,
                 2 => (next(&mut seed) % i as u64) as usize,
-                3 => if i % 2 == 0 { i - 2 } else { i - 1 },
+                3 => {
+                    if i % 2 == 0 {
+                        i - 2
+                    } else {
+                        i - 1
+                    }
+                }
                 4 => (i - 1) / 2,
-                5 => if i < n / 2 { i - 1 } else { n / 2 - 1 },
+                5 => {
+                    if i < n / 2 {
+                        i - 1
+                    } else {
+                        n / 2 - 1
+                    }
+                }
                 _ => i - 1 - (next(&mut seed) % (i.min(8) as u64)) as usize,
             };
             p as u32

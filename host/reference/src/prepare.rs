@@ -140,7 +140,7 @@ fn fill(parents: &[u32], table: &mut [u32], space: &mut [u32]) {
     }
     let paths = lay_ladders(order, depth, above, height, long, ladpos, ladders);
     let group_count = lay_groups(order, depth, above, size, kinds, groups);
-    let jump_count = lay_jumps(order, size, above, depth, kinds, ladpos, ladders, jumps);
+    let jump_count = lay_jumps(order, size, depth, kinds, ladpos, ladders, jumps);
     debug_assert_eq!(4 + n * 11 + jumps.len(), s.words());
     head.copy_from_slice(&[n as u32, jump_count, group_count, paths]);
 }
@@ -232,7 +232,11 @@ fn lay_groups(
         let at = 3 * count as usize;
         groups[at] = i as u32;
         groups[at + 1] = number(&depth[i..end]);
-        groups[at + 2] = if i == 0 { TOP } else { order[above[i] as usize] };
+        groups[at + 2] = if i == 0 {
+            TOP
+        } else {
+            order[above[i] as usize]
+        };
         for (local, &v) in order[i..end].iter().enumerate() {
             kinds[v as usize] = MICRO + 8 * count + local as u32;
         }
@@ -248,57 +252,60 @@ fn lay_groups(
 fn lay_jumps(
     order: &[u32],
     size: &[u32],
-    above: &[u32],
     depth: &[u32],
     kinds: &mut [u32],
     ladpos: &[u32],
     ladders: &[u32],
     jumps: &mut [u32],
 ) -> u32 {
-    // In reverse preorder the jump entries are met last to first; an entry leads to the first at or below it.
-    let n = order.len();
-    let mut count = 0u32;
-    let mut behind = n;
-    for i in 0..n {
-        if size[i] > 5 {
-            if behind < n && behind + size[behind] as usize <= i {
+    let mut count = 0;
+    // The last entry of size 6 or more so far: a jump entry if the next one lies past its family.
+    let mut last = None;
+    for i in 0..order.len() {
+        if size[i] < 6 {
+            continue;
+        }
+        if let Some(j) = last {
+            if j + size[j] as usize <= i {
+                lay_record(
+                    order[j],
+                    depth[j],
+                    ladpos,
+                    ladders,
+                    &mut jumps[21 * count..][..21],
+                );
                 count += 1;
             }
-            kinds[order[i] as usize] = count;
-            behind = i;
         }
+        kinds[order[i] as usize] = count as u32;
+        last = Some(i);
     }
-    let _ = above;
-    let total = if behind < n { count + 1 } else { 0 };
-    let mut j = 0usize;
-    let mut last = TOP as usize;
-    let mut lay = |i: usize, j: usize| {
-        let record = &mut jumps[21 * j..21 * j + 21];
-        record.fill(0);
-        record[0] = depth[i];
-        let mut w = order[i];
-        let mut step = 1u32;
-        let mut e = 0;
-        while e < 20 && 1u32 << e <= depth[i] {
-            w = ladders[(ladpos[w as usize] - step) as usize];
-            record[1 + e] = w;
-            step = 1 << e;
-            e += 1;
+    if let Some(j) = last {
+        lay_record(
+            order[j],
+            depth[j],
+            ladpos,
+            ladders,
+            &mut jumps[21 * count..][..21],
+        );
+        count += 1;
+    }
+    jumps[21 * count..].fill(0);
+    count as u32
+}
+
+/// A jump entry's depth, and its ancestors 1, 2, 4, .. above, each by a ladder from the one before.
+fn lay_record(v: u32, depth: u32, ladpos: &[u32], ladders: &[u32], record: &mut [u32]) {
+    record.fill(0);
+    record[0] = depth;
+    let mut w = v;
+    let mut step = 1;
+    for e in 0..20 {
+        if 1 << e > depth {
+            break;
         }
-    };
-    for i in 0..n {
-        if size[i] > 5 {
-            if last != TOP as usize && last + size[last] as usize <= i {
-                lay(last, j);
-                j += 1;
-            }
-            last = i;
-        }
+        w = ladders[(ladpos[w as usize] - step) as usize];
+        record[1 + e] = w;
+        step = 1 << e;
     }
-    if last != TOP as usize {
-        lay(last, j);
-        j += 1;
-    }
-    jumps[21 * j..].fill(0);
-    total
 }

@@ -1,6 +1,6 @@
 //! The five questions on a table of any contents.
 
-use crate::shapes::{shapes, NONE};
+use crate::shapes::{NONE, SHAPES};
 use crate::{Sections, MICRO, MOST};
 
 /// An answer: its number and result word, the cells read and their count.
@@ -105,7 +105,7 @@ fn look(r: &mut Reader, s: Sections, v: u32, d: u32, climbs: bool) -> Result<u32
         }
         let at = s.groups() + 3 * group;
         let shape = r.read(at + 1) as usize;
-        let shape = shapes().get(shape).ok_or(BROKEN)?;
+        let shape = SHAPES.get(shape).ok_or(BROKEN)?;
         if local >= shape.entries as usize {
             return Err(BROKEN);
         }

@@ -11,70 +11,109 @@ pub struct Shape {
     pub climb: [[u8; 5]; 5],
 }
 
-/// The depths of all groups of a number of entries, in the order of their walks: down before up, so the deeper first.
-fn depth_lists(entries: usize) -> Vec<Vec<u8>> {
-    let mut lists = vec![vec![0u8]];
-    for _ in 1..entries {
-        let mut longer = Vec::new();
-        for list in lists {
-            let last = *list.last().unwrap();
-            for depth in (1..=last + 1).rev() {
-                let mut more = list.clone();
-                more.push(depth);
-                longer.push(more);
+/// All 23 shapes, by number.
+pub static SHAPES: [Shape; 23] = shapes();
+
+/// The shape's number for a list of depths taken as digits to base 8, each one more than the depth.
+static NUMBERS: [u8; 1 << 15] = numbers();
+
+/// The shape with these depths: a climb leads to the nearest entry before that is less deep.
+const fn shape(depth: [u8; 5], entries: usize) -> Shape {
+    let mut climb = [[NONE; 5]; 5];
+    let mut i = 0;
+    while i < entries {
+        let mut at = i;
+        climb[i][0] = i as u8;
+        let mut k = 1;
+        while k <= depth[i] as usize {
+            let mut over = at;
+            while depth[over] >= depth[at] {
+                over -= 1;
+            }
+            at = over;
+            climb[i][k] = at as u8;
+            k += 1;
+        }
+        i += 1;
+    }
+    Shape {
+        entries: entries as u8,
+        depth,
+        climb,
+    }
+}
+
+/// By number of entries, then by the string of the walk with down before up: of two shapes the one that is deeper where
+/// they first differ comes first.
+const fn shapes() -> [Shape; 23] {
+    let mut all = [shape([0; 5], 1); 23];
+    let mut count = 0;
+    let mut entries = 1;
+    while entries <= 5 {
+        // The first is the chain.
+        let mut depth = [0u8; 5];
+        let mut i = 1;
+        while i < entries {
+            depth[i] = i as u8;
+            i += 1;
+        }
+        loop {
+            all[count] = shape(depth, entries);
+            count += 1;
+            // The next: the last entry that can be less deep becomes so, and those behind it go down from there.
+            let mut last = entries - 1;
+            while last > 0 && depth[last] == 1 {
+                last -= 1;
+            }
+            if last == 0 {
+                break;
+            }
+            depth[last] -= 1;
+            let mut i = last + 1;
+            while i < entries {
+                depth[i] = depth[i - 1] + 1;
+                i += 1;
             }
         }
-        lists = longer;
+        entries += 1;
     }
-    lists
+    all
 }
 
-fn shape(depths: &[u8]) -> Shape {
-    let mut s = Shape {
-        entries: depths.len() as u8,
-        depth: [0; 5],
-        climb: [[NONE; 5]; 5],
-    };
-    s.depth[..depths.len()].copy_from_slice(depths);
-    for i in 0..depths.len() {
-        let mut at = i;
-        s.climb[i][0] = i as u8;
-        for k in 1..=depths[i] as usize {
-            at = (0..at).rev().find(|&j| depths[j] < depths[at]).unwrap();
-            s.climb[i][k] = at as u8;
+const fn numbers() -> [u8; 1 << 15] {
+    let mut table = [0; 1 << 15];
+    let mut k = 0;
+    while k < 23 {
+        let mut key = 0;
+        let mut i = 0;
+        while i < SHAPES[k].entries as usize {
+            key = key * 8 + SHAPES[k].depth[i] as usize + 1;
+            i += 1;
         }
+        table[key] = k as u8;
+        k += 1;
     }
-    s
-}
-
-/// All 23 shapes, by number.
-pub fn shapes() -> &'static [Shape; 23] {
-    use std::sync::OnceLock;
-    static ALL: OnceLock<[Shape; 23]> = OnceLock::new();
-    ALL.get_or_init(|| {
-        let all: Vec<Shape> = (1..=5)
-            .flat_map(depth_lists)
-            .map(|d| shape(&d))
-            .collect();
-        all.try_into().unwrap_or_else(|_| unreachable!("23 shapes"))
-    })
+    table
 }
 
 /// The number of the shape with these depths, the root's taken as 0.
 pub fn number(depths: &[u32]) -> u32 {
-    // A list of depths as one number: five digits to base 8, shorter lists first.
-    let key = |d: &mut dyn Iterator<Item = u32>| d.fold(0u32, |k, x| k * 8 + x + 1);
-    use std::sync::OnceLock;
-    static BY_KEY: OnceLock<Vec<u8>> = OnceLock::new();
-    let by_key = BY_KEY.get_or_init(|| {
-        let mut table = vec![0u8; 1 << 15];
-        for (i, s) in shapes().iter().enumerate() {
-            let mut d = s.depth[..s.entries as usize].iter().map(|&x| x as u32);
-            table[key(&mut d) as usize] = i as u8;
-        }
-        table
-    });
     let root = depths[0];
-    let k = key(&mut depths.iter().map(|&x| x - root));
-    by_key[k as usize] as u32
+    let key = depths.iter().fold(0, |k, &d| k * 8 + (d - root) + 1);
+    NUMBERS[key as usize] as u32
+}
+
+#[cfg(test)]
+mod tests {
+    use super::*;
+
+    #[test]
+    fn the_papers_shapes() {
+        assert_eq!(SHAPES[0].entries, 1);
+        assert_eq!((SHAPES[3].entries, SHAPES[3].depth), (3, [0, 1, 1, 0, 0]));
+        assert_eq!((SHAPES[9].entries, SHAPES[9].depth), (5, [0, 1, 2, 3, 4]));
+        assert_eq!((SHAPES[22].entries, SHAPES[22].depth), (5, [0, 1, 1, 1, 1]));
+        assert_eq!(SHAPES[9].climb[4], [4, 3, 2, 1, 0]);
+        assert_eq!(SHAPES[3].climb[2], [2, 0, NONE, NONE, NONE]);
+    }
 }
