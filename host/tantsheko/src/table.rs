@@ -2,6 +2,7 @@
 
 use crate::ffi;
 use crate::refusal::Refusal;
+use std::mem::MaybeUninit;
 
 /// The most entries of a list.
 pub const MOST_ENTRIES: usize = 1_048_576;
@@ -95,18 +96,14 @@ impl Table {
     }
 
     fn ask(&self, question: Question, a: u32, b: u32) -> Answer {
-        let mut answer = Answer {
-            number: 0,
-            word: 0,
-            cells: [0; 15],
-            count: 0,
-        };
-        // SAFETY: the pointer and the length are the slice's, and the answer has eighteen words.
+        let mut answer = MaybeUninit::<Answer>::uninit();
+        // SAFETY: the pointer and the length are the slice's, and the answer is eighteen words, each of which the
+        // question writes.
         unsafe {
-            let out = (&mut answer as *mut Answer).cast::<u32>();
+            let out = answer.as_mut_ptr().cast::<u32>();
             question(self.words.as_ptr(), self.words.len(), a, b, out);
+            answer.assume_init()
         }
-        answer
     }
 
     /// The class of v at depth d.
