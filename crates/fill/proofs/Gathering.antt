@@ -19,10 +19,11 @@ use Rattle.tree.specs.Faults.{Tree}
 use Rattle.tree.proofs.OneTree.{tree-meets}
 use Rattle.tree.proofs.Levels.{under-levels}
 use Rattle.tree.proofs.Positions.{order-length, at-position, position-of, order-in}
-use Rattle.tree.proofs.Intervals.{parent-before, family-drop}
+use Rattle.tree.specs.Level.{Ancestor}
+use Rattle.tree.proofs.Intervals.{ancestor-self, family-room, interval, parent-before, family-drop}
 use Rattle.table.specs.Groups.{groupRoot, groupWords}
 use Rattle.shapes.specs.Walks.{walkRound, shapeNumber}
-use Rattle.climbs.proofs.Groups.{rootsWithin, root-micro}
+use Rattle.climbs.proofs.Groups.{rootsWithin, root-micro, one-root}
 use Rattle.climbs.proofs.Jumps.{micro-size}
 use Rattle.fill.specs.Arrays.{entryAt, abovePosition, Climbs, Members, Grouped}
 use Rattle.fill.proofs.Laddering.{Over, array-length, array-word, over-at}
@@ -177,6 +178,46 @@ module _ (ps ord deep sizes above : List ℕ) (m : Members ps ord deep sizes abo
 
     pub group-size : getD sizes i 0 ≡ size ps v
     group-size = array-word ps few tree (size ps) sizes (m .families .sizes-are) i (omega (arith, entries))
+
+    -- the group's end, and no other root up to there
+    pub group-room : i + getD sizes i 0 ≤ length ord
+    group-room = omega (arith, group-size, family-room ps little tree v hv, at-v, entries)
+
+    pub group-some : 0 < getD sizes i 0
+    group-some = omega (arith, group-size, interval ps little tree v v hv hv .0 (ancestor-self ps little tree v hv) .1)
+
+    inside-none : groupRoot groupLimit ps v ≡ true → (j : ℕ) → i < j → j < i + size ps v → groupRoot groupLimit ps (entryAt ps j) ≡ false
+    inside-none e j b k = go (groupRoot groupLimit ps (entryAt ps j)) refl
+      where
+        low : j < length ps
+        low = omega (arith, family-room ps little tree v hv, at-v)
+
+        hu : entryAt ps j < length ps
+        hu = order-in ps little tree j low
+
+        at-u : position ps (entryAt ps j) ≡ j
+        at-u = position-of ps little tree j low
+
+        over : Ancestor ps v (entryAt ps j)
+        over = interval ps little tree v (entryAt ps j) hv hu .1 (omega (arith, at-u, at-v), omega (arith, at-u, at-v))
+
+        go : (t : Bool) → groupRoot groupLimit ps (entryAt ps j) ≡ t → groupRoot groupLimit ps (entryAt ps j) ≡ false
+        go false q = q
+        go true q =
+            let same : v ≡ entryAt ps j = one-root ps little tree groupLimit v (entryAt ps j) (entryAt ps j) e q over (ancestor-self ps little tree (entryAt ps j) hu) in
+            absurd (omega (arith, at-u, at-v, ap (position ps) same))
+
+    pub gather-hop : groupRoot groupLimit ps v ≡ true → (at₁ : ℕ) (cells₁ : List ℕ) → Gathered ps (i + 1) at₁ cells₁ → Gathered ps (i + getD sizes i 0) at₁ cells₁
+    gather-hop e at₁ cells₁ k =
+        let z : i + getD sizes i 0 ≡ (i + 1) + (size ps v - 1) = omega (arith, group-size, group-some) in
+        rw z (go (size ps v - 1) (omega (arith, group-size, group-some)))
+      where
+        go : (n : ℕ) → (i + 1) + n ≤ i + size ps v → Gathered ps ((i + 1) + n) at₁ cells₁
+        go zero b = let z : (i + 1) + zero ≡ i + 1 = omega arith in rw z k
+        go (suc n) b =
+            let z : (i + 1) + suc n ≡ ((i + 1) + n) + 1 = omega arith in
+            let in-order : (i + 1) + n < length (order ps) = omega (arith, family-room ps little tree v hv, at-v, order-length ps little tree) in
+            rw (z, keep-same (groupRoot groupLimit ps) (order ps) ((i + 1) + n) in-order (inside-none e ((i + 1) + n) (omega arith) (omega arith))) (go n (omega arith))
 
     pub group-small : groupRoot groupLimit ps v ≡ true → getD sizes i 0 ≤ groupLimit
     group-small e = omega (arith, group-size, micro-size groupLimit ps v (root-micro groupLimit ps v e))

@@ -22,7 +22,7 @@ fn parent_word(order: &[u32], above: &[u32], at: Position) -> u32
     order[over.0 as usize]
 }
 
-// GROUPS: each group's position, shape and parent, in preorder, and zeros behind.
+// GROUPS: each group's position, shape and parent, in preorder, and zeros behind. Past a root the next can stand where the group ends.
 pub fn groups(order: &[u32], depth: &[u32], size: &[u32], above: &[u32], cells: &mut [u32])
     requires { ⌜ ((ps : List ℕ) × Members ps (now order) (now depth) (now size) (now above)) × (length (now cells) ≡ 3 * length (now order)) ⌝ }
     ensures { λ _. ⌜ ((ps : List ℕ) → Members ps (now (order .entry)) (now (depth .entry)) (now (size .entry)) (now (above .entry)) → Grouped ps (now (cells .exit))) ⌝ }
@@ -32,12 +32,15 @@ pub fn groups(order: &[u32], depth: &[u32], size: &[u32], above: &[u32], cells: 
     let mut next = Position(0);
     while (next.0 as usize) < order.len() {
         let at = next;
-        next = Position(at.0 + 1);
         if group_root(size, above, at) {
+            let entries = size[at.0 as usize];
             cells[cell] = at.0;
-            cells[cell + 1] = shapes::number(depth, at, size[at.0 as usize] as usize);
+            cells[cell + 1] = shapes::number(depth, at, entries as usize);
             cells[cell + 2] = parent_word(order, above, at);
             cell += 3;
+            next = Position(at.0 + entries);
+        } else {
+            next = Position(at.0 + 1);
         }
     }
 }
