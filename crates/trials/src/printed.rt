@@ -1,32 +1,13 @@
 // A line of the output: a name, the number of trials and the number of differences.
-use crate::words::add;
-use crate::words::less;
+use samples::fields::field;
+use samples::words::less;
 
-// The place behind so many commas, or the end.
-fn behind(text: &[u8], commas: usize) -> usize {
-    let mut left = commas;
-    let mut i = 0;
-    while i < text.len() {
-        if left == 0 {
-            return i;
-        }
-        if text[i] == b',' {
-            left = less(left, 1);
-        }
-        i += 1;
-    }
-    i
-}
-
-// Writes a part of a text that has so many commas before it, up to its own comma.
-fn part(text: &[u8], commas: usize) {
-    let from = behind(text, commas);
-    let to = behind(text, add(commas, 1));
-    if from <= to {
-        if to <= text.len() {
-            io::write_all(1, &text[from..to]);
-        }
-    }
+// Writes the k-th field of a text.
+fn part(text: &[u8], k: usize) {
+    let span = field(text, k);
+    let from = span.from;
+    let to = span.to;
+    io::write_all(1, &text[from..to]);
 }
 
 fn name(line: usize) {

@@ -1,0 +1,2 @@
+-- The definitions that the contracts of `samples` cite.
+pub mod Climbing
