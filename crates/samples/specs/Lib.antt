@@ -1,2 +1,3 @@
 -- The definitions that the contracts of `samples` cite.
 pub mod Climbing
+pub mod Part

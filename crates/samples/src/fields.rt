@@ -1,13 +1,8 @@
 // Fields of a text, each with a comma behind it.
 ghost use Prim.Native.Nat.{_≤_};
 ghost use lib.ListN.{length};
+ghost use Rattle.samples.specs.Part.{Part};
 use crate::words::less;
-
-// Where a field starts, and where it ends: behind its comma.
-pub struct Span {
-    pub from: usize,
-    pub to: usize,
-}
 
 // The place behind so many commas from a place on, or the end.
 fn behind(text: &[u8], start: usize, commas: usize) -> usize
@@ -28,11 +23,11 @@ fn behind(text: &[u8], start: usize, commas: usize) -> usize
     i
 }
 
-// The k-th field, from 0.
-pub fn field(text: &[u8], k: usize) -> Span
-    ensures { λ r. ⌜ (r .from ≤ r .to) × (r .to ≤ length (now (text .entry))) ⌝ }
+// The k-th field, from 0, with its comma.
+pub fn field(text: &[u8], k: usize) -> &[u8]
+    ensures { λ r. ⌜ Part (now (text .entry)) (now r) ⌝ }
 {
     let from = behind(text, 0, k);
     let to = behind(text, from, 1);
-    Span { from, to }
+    &text[from..to]
 }

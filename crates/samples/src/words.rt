@@ -6,12 +6,13 @@ ghost use lib.ListN.{getD, set};
 pub const TOP: usize = 4294967295;
 
 pub fn wide(x: u32) -> usize
-    ensures { λ r. ⌜ r ≡ x ⌝ }
+    ensures { λ r. ⌜ (r ≡ x) × (r ≤ 4294967295) ⌝ }
 {
     x as usize
 }
 
-fn narrow(x: usize) -> u32
+// x as a word, or 0 where it is more than a word holds.
+pub fn narrow(x: usize) -> u32
     ensures { λ r. ⌜ (x ≤ 4294967295 → r ≡ x) ⌝ }
 {
     if x <= 4294967295 { x as u32 } else { 0 }
@@ -19,7 +20,7 @@ fn narrow(x: usize) -> u32
 
 // The word at i, 0 past the end.
 pub fn get(a: &[u32], i: usize) -> usize
-    ensures { λ r. ⌜ r ≡ getD (now (a .entry)) i 0 ⌝ }
+    ensures { λ r. ⌜ (r ≡ getD (now (a .entry)) i 0) × (r ≤ 4294967295) ⌝ }
 {
     if i < a.len() {
         return wide(a[i]);

@@ -2,25 +2,13 @@
 use samples::fields::field;
 use samples::words::less;
 
-// Writes the k-th field of a text.
-fn part(text: &[u8], k: usize) {
-    let span = field(text, k);
-    let from = span.from;
-    let to = span.to;
-    io::write_all(1, &text[from..to]);
-}
-
 fn name(line: usize) {
     if line < 11 {
-        part(
-            b"chain,star,random,caterpillar,binary,broom,deep,stray,tops,topless,loop,",
-            line,
-        );
+        let names = b"chain,star,random,caterpillar,binary,broom,deep,stray,tops,topless,loop,";
+        io::write_all(1, field(names, line));
     } else {
-        part(
-            b"empty,short table,short space,any,grown,total,",
-            less(line, 11),
-        );
+        let names = b"empty,short table,short space,any,grown,total,";
+        io::write_all(1, field(names, less(line, 11)));
     }
 }
 

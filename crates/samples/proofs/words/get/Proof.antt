@@ -1,5 +1,6 @@
 -- `words::get` meets its contract. Assumes nothing.
 use mathlib.Core.Path.{sym}
+use native.Mathlib.Omega.{arith}
 use borrow.Author.Needs.{needs}
 use lib.ListN.{List·getD-eq-default}
 use Rattle.samples.proofs.words.get.Statement.{statement}
@@ -13,4 +14,4 @@ get-spec =
     (λ c. search needs)
     (λ c κs. tt)
     (λ c. search needs)
-    (λ c. sym (List·getD-eq-default (c .before .before .args .a .now) 0 (c .if1 .left))))
+    (λ c. (sym (List·getD-eq-default (c .before .before .args .a .now) 0 (c .if1 .left)), omega arith)))
