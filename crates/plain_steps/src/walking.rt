@@ -5,22 +5,23 @@ ghost use Prim.Native.Nat.{ℕ, _+_, _<_, _≤_};
 ghost use lib.ListN.{getD};
 ghost use Rattle.plain_steps.specs.Same.{Same};
 use samples::words::get;
+use samples::words::narrow;
 use samples::words::wide;
 
 pub struct Walk {
     pub number: usize,
     pub word: usize,
     pub count: usize,
-    pub cells: [usize; 15],
+    pub cells: [u32; 15],
 }
 
 // Whether two lists of fifteen cells are the same.
-fn same_cells(a: [usize; 15], b: [u32; 15]) -> bool
+fn same_cells(a: [u32; 15], b: [u32; 15]) -> bool
     ensures { λ r. ⌜ (r ≡ true → (i : ℕ) → i < 15 → getD a i 0 ≡ getD b i 0) ⌝ }
 {
     let mut i = 0;
     while i < 15 {
-        if a[i] != wide(b[i]) {
+        if a[i] != b[i] {
             return false;
         }
         i += 1;
@@ -47,7 +48,7 @@ impl Walk {
         if 15 <= count {
             return self;
         }
-        self.cells[count] = cell;
+        self.cells[count] = narrow(cell);
         self.count = count + 1;
         self
     }

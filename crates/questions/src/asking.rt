@@ -54,7 +54,16 @@ fn most(question: usize) -> u32 {
     }
 }
 
-// Asks a question that is to give a number and a word.
+// Asks a question, and holds its answer to the printed steps.
+pub(crate) fn compare(table: &[u32], strings: &[u32], question: usize, a: u32, b: u32) -> Tally {
+    let given = answer(table, question, a, b);
+    if walked(given, walk(table, strings, question, a, b), most(question)) {
+        return Tally::right();
+    }
+    Tally::wrong()
+}
+
+// The same, where it is to give a number and a word.
 pub(crate) fn ask(
     table: &[u32],
     strings: &[u32],

@@ -2,6 +2,7 @@
 ghost use mathlib.Core.Path.{_≡_};
 ghost use Prim.Native.Nat.{_+_, _-_, _*_, _%_, _^_, _≤_, min};
 ghost use lib.ListN.{getD, set};
+ghost use Rattle.samples.specs.Words.{narrowed};
 
 pub const TOP: usize = 4294967295;
 
@@ -13,7 +14,7 @@ pub fn wide(x: u32) -> usize
 
 // x as a word, or 0 where it is more than a word holds.
 pub fn narrow(x: usize) -> u32
-    ensures { λ r. ⌜ (x ≤ 4294967295 → r ≡ x) ⌝ }
+    ensures { λ r. ⌜ r ≡ narrowed x ⌝ }
 {
     if x <= 4294967295 { x as u32 } else { 0 }
 }
@@ -30,7 +31,7 @@ pub fn get(a: &[u32], i: usize) -> usize
 
 // The word at i becomes x, and nothing changes where there is none.
 pub fn put(a: &mut [u32], i: usize, x: usize)
-    ensures { λ _. ⌜ (x ≤ 4294967295 → now (a .exit) ≡ set (now (a .entry)) i x) ⌝ }
+    ensures { λ _. ⌜ now (a .exit) ≡ set (now (a .entry)) i (narrowed x) ⌝ }
 {
     if i < a.len() {
         a[i] = narrow(x);

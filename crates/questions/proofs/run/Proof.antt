@@ -11,7 +11,7 @@ abbrev Inv-loop : tie.InvT-loop
 Inv-loop parents₀ table₀ space₀ strings total₀ line₀ parents table space total line = (length parents ≡ length parents₀) × (length table ≡ length table₀) × (length space ≡ length space₀)
 
 abbrev μ-loop : tie.MeasureT-loop
-μ-loop parents₀ table₀ space₀ strings total₀ line₀ parents table space total line = 8 - line
+μ-loop parents₀ table₀ space₀ strings total₀ line₀ parents table space total line = 15 - line
 
 pub run-spec : {M : Type 1} → statement M
 run-spec =
@@ -21,7 +21,6 @@ run-spec =
     μ-loop
     (λ c κs. tt)
     (λ c. (refl, refl, refl))
-    (λ c κs. tt)
     (λ c κs. tt)
     (λ c κs. tt)
     (λ c κs. tt)

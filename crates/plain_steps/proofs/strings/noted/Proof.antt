@@ -1,9 +1,12 @@
 -- `strings::noted` meets its contract. Assumes nothing.
+use mathlib.Core.Path.{_≡_}
 use mathlib.Core.List.{List, [], _∷_}
 use Prim.Native.Nat.{ℕ, zero, suc, _<_}
 use native.Mathlib.Omega.{arith}
 use borrow.Author.Needs.{needs}
+use borrow.Author.Tests.{le-leb}
 use lib.ListN.{set}
+use Rattle.samples.specs.Words.{narrowed}
 use Rattle.plain_steps.specs.Short.{Short}
 use Rattle.plain_steps.proofs.strings.noted.Statement.{statement}
 use Rattle.plain_steps.proofs.strings.noted.Tie as tie
@@ -16,6 +19,11 @@ set-short (x ∷ l) zero s h b (suc j) = h (suc j)
 set-short (x ∷ l) (suc i) s h b zero = h zero
 set-short (x ∷ l) (suc i) s h b (suc j) = set-short l i s (λ k. h (suc k)) b j
 
+-- a short string is a word
+fits : (s : ℕ) → s < 512 → narrowed s ≡ s
+unfolding narrowed
+fits s h = simp (le-leb s 4294967295 (omega arith))
+
 pub noted-spec : {M : Type 1} → statement M
 noted-spec =
     tie.close
@@ -27,4 +35,4 @@ noted-spec =
     (λ c. search needs)
     (λ c.
     let s = c .before .before .before .before .before .before .before .before in
-    rw (c .before .before .before .put .ensures (omega arith)) (set-short (s .args .all .now) (s .args .at) (s .args .string) (s .pre .1) (s .pre .0))))
+    rw (c .before .before .before .put .ensures, fits _ (s .pre .0)) (set-short (s .args .all .now) (s .args .at) (s .args .string) (s .pre .1) (s .pre .0))))

@@ -13,5 +13,5 @@ put-spec =
     (λ c. search needs)
     (λ c. search needs)
     (λ c. search needs)
-    (λ c h. rw (c .narrow .ensures h))
-    (λ c h. sym (set-out (c .before .before .args .a .now) _ _ (c .if1 .left))))
+    (λ c. rw (c .narrow .ensures))
+    (λ c. sym (set-out (c .before .before .args .a .now) _ _ (c .if1 .left))))
