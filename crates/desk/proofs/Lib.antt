@@ -3,3 +3,5 @@ pub mod Ends
 pub mod Lists
 pub mod LineEnds
 pub mod Bytes
+pub mod Output
+pub mod Finishing

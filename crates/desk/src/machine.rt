@@ -10,7 +10,6 @@ ghost use Rattle.lines.specs.Stages.{Stage, counting, parenting, asking, listed
 ghost use Rattle.desk.specs.Stand.{Stands, Turned, Room};
 use crate::turns::answer_row;
 use crate::turns::judge_list;
-use base::Node;
 use lines::reading::read_count;
 use lines::reading::read_parent;
 use lines::reading::read_question;
@@ -32,7 +31,7 @@ pub struct Stepped {
 }
 
 // The same at another stage.
-fn at_stage(desk: Desk, stage: u32) -> Desk
+pub(crate) fn at_stage(desk: Desk, stage: u32) -> Desk
     ensures { λ r. ⌜ (r .stage ≡ stage) × (r .line ≡ desk .line) × (r .count ≡ desk .count) × (r .filled ≡ desk .filled) ⌝ }
 {
     Desk {
@@ -128,7 +127,7 @@ pub(crate) fn question_line(desk: Desk, line: &[u8], table: &[u32]) -> Stepped
             text: bad_line(desk.line),
         };
     }
-    let text = answer_row(table, desk.count as usize, Node(asked.entry), asked.depth);
+    let text = answer_row(table, desk.count as usize, asked.entry, asked.depth);
     Stepped {
         desk: Desk {
             stage: 2,

@@ -51,5 +51,5 @@ pub(crate) fn answer_row(table: &[u32], n: usize, v: Node, d: u32) -> Text
         return bad_line(0);
     }
     let r = level(&table[0..w], v, d);
-    reply_row(v.0, d, r.number, r.word, r.cells.count as u32)
+    reply_row(v, d, r.number, r.word, r.cells.count as u32)
 }

@@ -26,7 +26,7 @@ module _ (ps ord kinds : List ℕ) (j : Jumping ps ord kinds) where
   small : length ps ≤ topMark
   small = let few = j .few in omega (arith, few)
 
-  ord-many : length ord ≡ length ps
+  pub ord-many : length ord ≡ length ps
   ord-many = ap length (j .order-is) ∙ order-length ps small (j .tree)
 
   kinds-many : length kinds ≡ length ps

@@ -28,17 +28,16 @@ pub fn groups(order: &[u32], depth: &[u32], size: &[u32], above: &[u32], cells: 
     ensures { λ _. ⌜ ((ps : List ℕ) → Members ps (now (order .entry)) (now (depth .entry)) (now (size .entry)) (now (above .entry)) → Grouped ps (now (cells .exit))) ⌝ }
 {
     set_all(cells, 0);
-    let mut at: usize = 0;
-    let mut i: usize = 0;
-    while i < order.len() {
-        let from = i;
-        let here = Position(i as u32);
-        i += 1;
-        if group_root(size, above, here) {
-            cells[at] = here.0;
-            cells[at + 1] = shapes::number(depth, from, size[from] as usize);
-            cells[at + 2] = parent_word(order, above, here);
-            at += 3;
+    let mut cell: usize = 0;
+    let mut next = Position(0);
+    while (next.0 as usize) < order.len() {
+        let at = next;
+        next = Position(at.0 + 1);
+        if group_root(size, above, at) {
+            cells[cell] = at.0;
+            cells[cell + 1] = shapes::number(depth, at, size[at.0 as usize] as usize);
+            cells[cell + 2] = parent_word(order, above, at);
+            cell += 3;
         }
     }
 }

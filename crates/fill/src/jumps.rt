@@ -7,17 +7,19 @@ ghost use Rattle.tree.specs.Parents.{depth};
 ghost use Rattle.table.specs.Groups.{jumpRecord};
 ghost use Rattle.fill.specs.Arrays.{Jumping, Listed, Reaching};
 use base::Node;
+use base::Position;
 
 // The jump entries, in preorder: of the entries of size over 5 that lead to one jump entry, that entry stands last.
 pub fn jump_nodes(order: &[u32], kind: &[u32], cells: &mut [u32])
     requires { ⌜ ((ps : List ℕ) × Jumping ps (now order) (now kind)) × (length (now cells) ≡ length (now order)) ⌝ }
     ensures { λ _. ⌜ ((ps : List ℕ) → Jumping ps (now (order .entry)) (now (kind .entry)) → Listed ps (now (cells .exit))) ⌝ }
 {
-    let mut i: usize = 0;
-    while i < order.len() {
-        let v = Node(order[i]);
+    let mut next = Position(0);
+    while (next.0 as usize) < order.len() {
+        let at = next;
+        next = Position(at.0 + 1);
+        let v = Node(order[at.0 as usize]);
         let k = kind[v.0 as usize];
-        i += 1;
         if k < 2147483648 {
             cells[k as usize] = v.0;
         }

@@ -41,24 +41,23 @@ pub fn kinds(size: &[u32], above: &[u32], cells: &mut [u32]) -> Counts
     let mut jumps: u32 = 0;
     let mut root = Position(0);
     let mut last = Position(0);
-    let mut i: usize = 0;
-    while i < size.len() {
-        let at = i;
-        let here = Position(i as u32);
-        i += 1;
-        if group_root(size, above, here) {
-            cells[at] = 2147483648 + 8 * groups;
+    let mut next = Position(0);
+    while (next.0 as usize) < size.len() {
+        let at = next;
+        next = Position(at.0 + 1);
+        if group_root(size, above, at) {
+            cells[at.0 as usize] = 2147483648 + 8 * groups;
             groups += 1;
-            root = here;
-        } else if size[at] <= 5 {
-            cells[at] = 2147483648 + 8 * (groups - 1) + (here.0 - root.0);
-        } else if last.0 + size[last.0 as usize] <= here.0 {
+            root = at;
+        } else if size[at.0 as usize] <= 5 {
+            cells[at.0 as usize] = 2147483648 + 8 * (groups - 1) + (at.0 - root.0);
+        } else if last.0 + size[last.0 as usize] <= at.0 {
             jumps += 1;
-            cells[at] = jumps;
-            last = here;
+            cells[at.0 as usize] = jumps;
+            last = at;
         } else {
-            cells[at] = jumps;
-            last = here;
+            cells[at.0 as usize] = jumps;
+            last = at;
         }
     }
     if size[0] <= 5 {

@@ -52,18 +52,18 @@ pub fn ladder_places(
 {
     let mut paths: u32 = 0;
     let mut words: u32 = 0;
-    let mut i: usize = 0;
-    while i < depth.len() {
-        let at = i;
-        i += 1;
-        if path_top(long, above, Position(at as u32)) {
-            let own = words + lesser(height[at], depth[at]);
-            places[at] = own;
-            words = own + height[at];
+    let mut next = Position(0);
+    while (next.0 as usize) < depth.len() {
+        let at = next;
+        next = Position(at.0 + 1);
+        if path_top(long, above, at) {
+            let own = words + lesser(height[at.0 as usize], depth[at.0 as usize]);
+            places[at.0 as usize] = own;
+            words = own + height[at.0 as usize];
             paths += 1;
         } else {
-            let over = Position(above[at]);
-            places[at] = places[over.0 as usize] + 1;
+            let over = Position(above[at.0 as usize]);
+            places[at.0 as usize] = places[over.0 as usize] + 1;
         }
     }
     Totals { paths, words }
@@ -97,15 +97,14 @@ pub fn ladders(
     ensures { λ _. ⌜ ((ps : List ℕ) → Rungs ps (now (order .entry)) (now (places .entry)) (now (depth .entry)) (now (height .entry)) (now (long .entry)) (now (above .entry)) → Laddered ps (now (cells .exit))) ⌝ }
 {
     set_all(cells, 0);
-    let mut next: usize = 0;
-    while next < order.len() {
-        let at = next;
-        next += 1;
-        let place = places[at];
-        cells[place as usize] = order[at];
-        let here = Position(at as u32);
+    let mut next = Position(0);
+    while (next.0 as usize) < order.len() {
+        let here = next;
+        next = Position(here.0 + 1);
+        let place = places[here.0 as usize];
+        cells[place as usize] = order[here.0 as usize];
         if path_top(long, above, here) {
-            let count = lesser(height[at], depth[at]);
+            let count = lesser(height[here.0 as usize], depth[here.0 as usize]);
             rise(order, above, here, place, count, cells);
         }
     }

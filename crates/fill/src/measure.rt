@@ -20,17 +20,17 @@ fn family_end(depth: &[u32], sizes: &[u32], at: Position) -> Position
     next
 }
 
-// SIZE by position: a family ends where the depth is no greater.
+// SIZE by position: a family ends where the depth is no greater. `end` is the position behind those still to do.
 pub fn sizes(depth: &[u32], cells: &mut [u32])
     requires { ⌜ ((ps : List ℕ) × Depths ps (now depth)) × (length (now cells) ≡ length (now depth)) ⌝ }
     ensures { λ _. ⌜ ((ps : List ℕ) → Depths ps (now (depth .entry)) → now (cells .exit) ≡ map (size ps) (order ps)) ⌝ }
 {
-    let mut i = depth.len();
-    while 0 < i {
-        let at = i - 1;
-        let end = family_end(depth, cells, Position(at as u32));
-        cells[at] = end.0 - at as u32;
-        i = at;
+    let mut end = Position(depth.len() as u32);
+    while 0 < end.0 {
+        let at = Position(end.0 - 1);
+        let behind = family_end(depth, cells, at);
+        cells[at.0 as usize] = behind.0 - at.0;
+        end = at;
     }
 }
 
@@ -53,11 +53,11 @@ pub fn above(depth: &[u32], cells: &mut [u32])
     ensures { λ _. ⌜ ((ps : List ℕ) → Depths ps (now (depth .entry)) → now (cells .exit) ≡ map (abovePosition ps) (order ps)) ⌝ }
 {
     cells[0] = 4294967295;
-    let mut i: usize = 1;
-    while i < depth.len() {
-        let over = higher(depth, cells, Position(i as u32));
-        cells[i] = over.0;
-        i += 1;
+    let mut at = Position(1);
+    while (at.0 as usize) < depth.len() {
+        let over = higher(depth, cells, at);
+        cells[at.0 as usize] = over.0;
+        at = Position(at.0 + 1);
     }
 }
 
@@ -81,20 +81,21 @@ fn tallest(sizes: &[u32], high: &[u32], at: Position) -> Position
     best
 }
 
-// HEIGHT and LONG, one behind the other.
+// HEIGHT and LONG, one behind the other, from the last position to the first.
 pub fn heights(size: &[u32], cells: &mut [u32])
     requires { ⌜ ((ps : List ℕ) × Sizes ps (now size)) × (length (now cells) ≡ 2 * length (now size)) ⌝ }
     ensures { λ _. ⌜ ((ps : List ℕ) → Sizes ps (now (size .entry)) → Tall ps (now (cells .exit))) ⌝ }
 {
-    let mut i = size.len();
-    while 0 < i {
-        i -= 1;
-        let long = tallest(size, cells, Position(i as u32));
-        cells[size.len() + i] = long.0;
+    let mut end = Position(size.len() as u32);
+    while 0 < end.0 {
+        let at = Position(end.0 - 1);
+        end = at;
+        let long = tallest(size, cells, at);
+        cells[size.len() + at.0 as usize] = long.0;
         if long.0 == 4294967295 {
-            cells[i] = 1;
+            cells[at.0 as usize] = 1;
         } else {
-            cells[i] = cells[long.0 as usize] + 1;
+            cells[at.0 as usize] = cells[long.0 as usize] + 1;
         }
     }
 }

@@ -5,17 +5,18 @@ ghost use lib.ListN.{length, replicate};
 ghost use Rattle.base.specs.Limits.{mostEntries};
 ghost use Rattle.fill.specs.Arrays.{Indexes, Scattered, Placed};
 use base::Node;
+use base::Position;
 
 // The word of each position into the cell of the entry that stands there.
 pub fn scatter(order: &[u32], values: &[u32], cells: &mut [u32])
-    requires { ⌜ (Indexes (now order) (now cells)) × (length (now values) ≡ length (now order)) ⌝ }
+    requires { ⌜ (Indexes (now order) (now cells)) × (length (now order) ≤ mostEntries) × (length (now values) ≡ length (now order)) ⌝ }
     ensures { λ _. ⌜ Scattered (now (order .entry)) (now (values .entry)) (now (cells .exit)) ⌝ }
 {
-    let mut i: usize = 0;
-    while i < order.len() {
-        let v = Node(order[i]);
-        cells[v.0 as usize] = values[i];
-        i += 1;
+    let mut at = Position(0);
+    while (at.0 as usize) < order.len() {
+        let v = Node(order[at.0 as usize]);
+        cells[v.0 as usize] = values[at.0 as usize];
+        at = Position(at.0 + 1);
     }
 }
 
@@ -24,11 +25,11 @@ pub fn positions(order: &[u32], cells: &mut [u32])
     requires { ⌜ (Indexes (now order) (now cells)) × (length (now order) ≤ mostEntries) ⌝ }
     ensures { λ _. ⌜ Placed (now (order .entry)) (now (cells .exit)) ⌝ }
 {
-    let mut i: usize = 0;
-    while i < order.len() {
-        let v = Node(order[i]);
-        cells[v.0 as usize] = i as u32;
-        i += 1;
+    let mut at = Position(0);
+    while (at.0 as usize) < order.len() {
+        let v = Node(order[at.0 as usize]);
+        cells[v.0 as usize] = at.0;
+        at = Position(at.0 + 1);
     }
 }
 

@@ -4,6 +4,7 @@ ghost use Prim.Native.Nat.{_≤_};
 ghost use lib.ListN.{length};
 ghost use Rattle.lines.specs.Fields.{number, countOf, parentOf, questionOf};
 ghost use Rattle.lines.specs.Reads.{Reads, Asks, headed, NextComma};
+use base::Node;
 
 // A number that was read, if `ok`.
 pub struct Found {
@@ -14,7 +15,7 @@ pub struct Found {
 // A question that was read, if `ok`.
 pub struct Asked {
     pub ok: bool,
-    pub entry: u32,
+    pub entry: Node,
     pub depth: u32,
 }
 
@@ -97,11 +98,11 @@ fn comma_from(line: &[u8], from: usize) -> usize
 
 // `Q,entry,depth`.
 pub fn read_question(line: &[u8]) -> Asked
-    ensures { λ r. ⌜ Asks (questionOf (now (line .entry))) (r .ok) (r .entry) (r .depth) ⌝ }
+    ensures { λ r. ⌜ Asks (questionOf (now (line .entry))) (r .ok) (r .entry .0) (r .depth) ⌝ }
 {
     let none = Asked {
         ok: false,
-        entry: 0,
+        entry: Node(0),
         depth: 0,
     };
     if !has_letter(line, 81) {
@@ -118,7 +119,7 @@ pub fn read_question(line: &[u8]) -> Asked
     }
     Asked {
         ok: true,
-        entry: entry.word,
+        entry: Node(entry.word),
         depth: depth.word,
     }
 }

@@ -8,6 +8,7 @@ ghost use lib.ListN.{length};
 ghost use Rattle.lines.specs.Text.{comma, dash, decimal};
 ghost use Rattle.lines.specs.Texts.{said};
 ghost use Rattle.lines.specs.Counter.{badLine, badList, headerRow, replyRow};
+use base::Node;
 
 // A text: its first `count` bytes.
 pub struct Text {
@@ -106,11 +107,11 @@ pub fn header_row() -> Text
 }
 
 // A question's row: entry, depth, refusal, class or `-`, count of cells.
-pub fn reply_row(v: u32, d: u32, number: u32, word: u32, cells: u32) -> Text
-    ensures { λ r. ⌜ (r .count ≤ 64) × (said (r .bytes) (r .count) ≡ replyRow v d number word cells) ⌝ }
+pub fn reply_row(v: Node, d: u32, number: u32, word: u32, cells: u32) -> Text
+    ensures { λ r. ⌜ (r .count ≤ 64) × (said (r .bytes) (r .count) ≡ replyRow (v .0) d number word cells) ⌝ }
 {
     let start = nothing();
-    let asked = with_field(with_field(start, v, b','), d, b',');
+    let asked = with_field(with_field(start, v.0, b','), d, b',');
     let told = with_field(asked, number, b',');
     let class = with_class(told, number, word);
     with_field(class, cells, b'\n')

@@ -15,16 +15,17 @@ pub(crate) fn link(parents: &[u32], space: &mut [u32]) -> Node
     let b = n * 3;
     set_all(&mut space[a..b], 4294967295);
     let mut first = Node(4294967295);
-    let mut i = n;
-    while 0 < i {
-        i -= 1;
-        let over = Node(parents[i]);
+    let mut end = Node(n as u32);
+    while 0 < end.0 {
+        let v = Node(end.0 - 1);
+        end = v;
+        let over = Node(parents[v.0 as usize]);
         if (over.0 as usize) < n {
-            space[b + i] = space[a + over.0 as usize];
-            space[a + over.0 as usize] = i as u32;
+            space[b + v.0 as usize] = space[a + over.0 as usize];
+            space[a + over.0 as usize] = v.0;
         } else {
-            space[b + i] = first.0;
-            first = Node(i as u32);
+            space[b + v.0 as usize] = first.0;
+            first = v;
         }
     }
     first

@@ -10,6 +10,7 @@ ghost use Rattle.tree.specs.Forest.{order};
 ghost use Rattle.tree.specs.Faults.{lowest, meetsTop};
 ghost use Rattle.prepare.specs.Regions.{orAll, Marked};
 use base::Node;
+use base::Position;
 use fill::spread::set_all;
 
 // Marks the entries of the preorder in region 5.
@@ -21,11 +22,11 @@ fn mark(parents: &[u32], count: usize, space: &mut [u32])
     let a = n * 5;
     let b = n * 6;
     set_all(&mut space[a..b], 0);
-    let mut i = 0;
-    while i < count {
-        let v = Node(space[i]);
+    let mut at = Position(0);
+    while (at.0 as usize) < count {
+        let v = Node(space[at.0 as usize]);
         space[a + v.0 as usize] = 1;
-        i += 1;
+        at = Position(at.0 + 1);
     }
 }
 
@@ -34,15 +35,15 @@ fn first_unmarked(marks: &[u32]) -> Node
     requires { ⌜ length (now marks) ≤ 1048576 ⌝ }
     ensures { λ r. ⌜ r .0 ≡ orAll (first (λ v. eqb (getD (now (marks .entry)) v 0) 0) (below (length (now (marks .entry))) (λ v. v))) (length (now (marks .entry))) ⌝ }
 {
-    let mut i = 0;
-    while i < marks.len() {
-        let x = marks[i];
+    let mut v = Node(0);
+    while (v.0 as usize) < marks.len() {
+        let x = marks[v.0 as usize];
         if x == 0 {
-            return Node(i as u32);
+            return v;
         }
-        i += 1;
+        v = Node(v.0 + 1);
     }
-    Node(i as u32)
+    v
 }
 
 // The lowest entry whose climb never meets the top, where there is one.

@@ -11,16 +11,16 @@ pub(crate) fn first_stray(parents: &[u32]) -> Node
     requires { ⌜ length (now parents) ≤ 1048576 ⌝ }
     ensures { λ r. ⌜ r .0 ≡ orAll (lowest (now (parents .entry)) (isStray (now (parents .entry)))) (length (now (parents .entry))) ⌝ }
 {
-    let mut i = 0;
-    while i < parents.len() {
-        let over = Node(parents[i]);
+    let mut v = Node(0);
+    while (v.0 as usize) < parents.len() {
+        let over = Node(parents[v.0 as usize]);
         if (over.0 as usize) < parents.len() {
-            i += 1;
+            v = Node(v.0 + 1);
         } else if over.0 == 4294967295 {
-            i += 1;
+            v = Node(v.0 + 1);
         } else {
-            return Node(i as u32);
+            return v;
         }
     }
-    Node(i as u32)
+    v
 }

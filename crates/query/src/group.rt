@@ -65,11 +65,11 @@ fn in_order(table: &[u32], n: u32, local: u32, position: Position, cells: Cells)
     if n <= position.0 {
         return broken(cells);
     }
-    let at = position.0 + local;
-    if n <= at {
+    let at = Position(position.0 + local);
+    if n <= at.0 {
         return broken(cells);
     }
-    let got = read(table, 4 + 3 * n + at, cells);
+    let got = read(table, 4 + 3 * n + at.0, cells);
     let word = got.word;
     let more = got.cells;
     settled(n, word, more)

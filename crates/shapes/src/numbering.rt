@@ -9,6 +9,7 @@ ghost use Rattle.tree.specs.Forest.{Forest, forestSize};
 ghost use Rattle.shapes.specs.Walks.{walkRound, walks, shapes, shapeNumber};
 ghost use Rattle.tree.specs.Forest.{levels};
 ghost use Rattle.shapes.specs.Numbered.{Numbered};
+use base::Position;
 
 // How many walks go on from each depth, 0 to 4, with so many downs to come.
 fn ways(downs: usize) -> [u32; 5]
@@ -65,15 +66,19 @@ fn ranked(group: &[u32]) -> u32
     sum
 }
 
-// The number of the shape of the group whose root stands at index `from` of a list of depths in preorder and that has so many entries; 23 where the
-// depths there are not those of a group of 1 to 5 entries.
-pub fn number(depths: &[u32], from: usize, entries: usize) -> u32
-    ensures is { λ r. ⌜ ((f : Forest) (d : ℕ) (rest : List ℕ) → drop from (now (depths .entry)) ≡ d ∷ (levels (suc d) f ++ rest) → entries ≡ suc (forestSize f) → entries ≤ groupLimit → r ≡ shapeNumber groupLimit (walkRound f)) ⌝ }
+// The number of the shape of the group whose root stands at position `from` of a list of depths in preorder and that has so many entries; 23 where
+// the depths there are not those of a group of 1 to 5 entries.
+pub fn number(depths: &[u32], from: Position, entries: usize) -> u32
+    ensures is { λ r. ⌜ ((f : Forest) (d : ℕ) (rest : List ℕ) → drop (from .0) (now (depths .entry)) ≡ d ∷ (levels (suc d) f ++ rest) → entries ≡ suc (forestSize f) → entries ≤ groupLimit → r ≡ shapeNumber groupLimit (walkRound f)) ⌝ }
     ensures small { λ r. ⌜ r ≤ shapeCount ⌝ }
 {
-    if entries == 0 || 5 < entries || depths.len() < entries || depths.len() - entries < from {
+    if entries == 0
+        || 5 < entries
+        || depths.len() < entries
+        || depths.len() - entries < from.0 as usize
+    {
         return 23;
     }
-    let end = from + entries;
-    ranked(&depths[from..end])
+    let end = from.0 as usize + entries;
+    ranked(&depths[from.0 as usize..end])
 }

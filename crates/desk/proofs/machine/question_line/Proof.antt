@@ -27,8 +27,8 @@ returns-3 c ps k parents st h =
     let s = o .before .before .before .before .before .before .before in
     let l = s .args .line .now in
     let f = o .before .before .before .before .read-question in
-    let e = asks-some (questionOf l) (f .result .ok) (f .result .entry) (f .result .depth) (o .before .before .if1 .left) (f .ensures) in
-    question-fine l _ _ _ _ parents _ _ ps k (record { entry = f .result .entry; depth = f .result .depth }) e (c .before .answer-row .ensures ps (st .3) (st .2)) (refl, omega arith, st .2, st .3)
+    let e = asks-some (questionOf l) (f .result .ok) (f .result .entry .0) (f .result .depth) (o .before .before .if1 .left) (f .ensures) in
+    question-fine l _ _ _ _ parents _ _ ps k (record { entry = f .result .entry .0; depth = f .result .depth }) e (c .before .answer-row .ensures ps (st .3) (st .2)) (refl, omega arith, st .2, st .3)
 
 pub question-line-spec : {M : Type 1} → statement M
 question-line-spec =

@@ -1,4 +1,4 @@
--- `grouping::groups` meets its contract: the words of the groups among the first i positions are laid end to end, with zeros behind. Assumes nothing.
+-- `grouping::groups` meets its contract: the words of the groups among the positions before the next are laid end to end, with zeros behind. Assumes nothing.
 use mathlib.Core.Path.{_≡_, sym, ap, _∙_}
 use mathlib.Core.List.{List}
 use Prim.Native.Nat.{ℕ, _+_, _*_, _-_, _≤_}
@@ -11,20 +11,20 @@ use Rattle.fill.proofs.grouping.groups.Statement.{statement}
 use Rattle.fill.proofs.grouping.groups.Tie as tie
 
 -- the numbers of a turn
-record Turn (order size cells : List ℕ) (at i : ℕ) : Type 0 where
+record Turn (order size cells : List ℕ) (cell next : ℕ) : Type 0 where
   pub few : length order ≤ 1048576
   pub sizes : length size ≡ length order
   pub room : length cells ≡ 3 * length order
-  pub used : at ≤ 3 * i
+  pub used : cell ≤ 3 * next
 
 abbrev Inv-loop : tie.InvT-loop
-Inv-loop order depth size above cells₀ at₀ i₀ cells at i =
-    (i ≤ length order)
-    × Turn order size cells at i
-    × ((ps : List ℕ) → Members ps order depth size above → Gathered ps i at cells)
+Inv-loop order depth size above cells₀ cell₀ next₀ cells cell next =
+    (next .0 ≤ length order)
+    × Turn order size cells cell (next .0)
+    × ((ps : List ℕ) → Members ps order depth size above → Gathered ps (next .0) cell cells)
 
 abbrev μ-loop : tie.MeasureT-loop
-μ-loop order depth size above cells₀ at₀ i₀ cells at i = length order - i
+μ-loop order depth size above cells₀ cell₀ next₀ cells cell next = length order - next .0
 
 loop-holds : tie.Need-loop-holds Inv-loop μ-loop
 loop-holds c =
@@ -43,69 +43,69 @@ loop-holds c =
 
 group-root-requires : tie.Need-group-root-requires Inv-loop μ-loop
 group-root-requires c κs =
-    let s = c .before .before .before .before .before .before .before .before .before .before .before in
+    let s = c .before .before .before .before .before .before .before .before .before .before .before .before .before in
     let (ps, m) = s .pre .0 in
     ((ps, m .families), omega arith)
 
-cast-number : tie.Need-cast-number Inv-loop μ-loop
-cast-number c = omega (arith, c .shared-slice-known5 .given (c .before .before .before .before .loop .i))
+cast-number-2 : tie.Need-cast-number-2 Inv-loop μ-loop
+cast-number-2 c = omega (arith, c .shared-slice-known5 .given (c .before .before .before .before .before .before .before .loop .next .0))
 
 slice-write-cells-2 : tie.Need-slice-write-cells-2 Inv-loop μ-loop
 slice-write-cells-2 c =
-    let l = c .before .before .before .before .before .loop in
-    omega (arith, length-set (l .cells) (l .at) (l .i))
+    let l = c .before .before .before .before .before .before .before .before .loop in
+    omega (arith, length-set (l .cells) (l .cell) (l .next .0))
 
 slice-write-cells-3 : tie.Need-slice-write-cells-3 Inv-loop μ-loop
 slice-write-cells-3 c =
-    let l = c .before .before .before .before .before .before .loop in
-    omega (arith, length-set (set (l .cells) (l .at) (l .i)) (l .at + 1) (c .before .number .result), length-set (l .cells) (l .at) (l .i))
+    let l = c .before .before .before .before .before .before .before .before .before .loop in
+    omega (arith, length-set (set (l .cells) (l .cell) (l .next .0)) (l .cell + 1) (c .before .number .result), length-set (l .cells) (l .cell) (l .next .0))
 
 parent-word-requires : tie.Need-parent-word-requires Inv-loop μ-loop
 parent-word-requires c κs =
-    let s = c .before .before .before .before .before .before .before .before .before .before .before .before .before .before .before in
+    let s = c .before .before .before .before .before .before .before .before .before .before .before .before .before .before .before .before .before .before in
     let (ps, m) = s .pre .0 in
     ((ps, climbs-from ps (s .args .order .now) (s .args .depth .now) (s .args .size .now) (s .args .above .now) m), omega arith)
 
 loop-again : tie.Need-loop-again Inv-loop μ-loop
 loop-again c =
-    let turn = c .before .before .before .before in
-    let l = turn .before .before .loop in
-    let s = turn .before .before .before .before .before .before .before .before .before .before .before .before in (
+    let turn = c .before .before .before .before .before in
+    let l = turn .before .before .before .before .loop in
+    let s = turn .before .before .before .before .before .before .before .before .before .before .before .before .before .before in (
       omega arith,
       record {
         few = l .inv .1 .few;
         sizes = l .inv .1 .sizes;
-        room = length-set (set (set (l .cells) (l .at) (l .i)) (l .at + 1) (c .before .number .result)) (l .at + 2) (c .parent-word .result) ∙ length-set (set (l .cells) (l .at) (l .i)) (l .at + 1) (c .before .number .result) ∙ length-set (l .cells) (l .at) (l .i) ∙ l .inv .1 .room;
+        room = length-set (set (set (l .cells) (l .cell) (l .next .0)) (l .cell + 1) (c .before .number .result)) (l .cell + 2) (c .parent-word .result) ∙ length-set (set (l .cells) (l .cell) (l .next .0)) (l .cell + 1) (c .before .number .result) ∙ length-set (l .cells) (l .cell) (l .next .0) ∙ l .inv .1 .room;
         used = omega arith;
       },
       λ ps m.
-          let e = sym (turn .group-root .ensures ps (m .families)) ∙ c .before .before .before .if1 .taken in
-          let k = group-size ps (s .args .order .now) (s .args .depth .now) (s .args .size .now) (s .args .above .now) m (l .i) (l .at) (l .cells) (omega arith) (l .inv .2 ps m) in
-          let q = group-depths ps (s .args .order .now) (s .args .depth .now) (s .args .size .now) (s .args .above .now) m (l .i) (l .at) (l .cells) (omega arith) (l .inv .2 ps m) in
-          let b = group-small ps (s .args .order .now) (s .args .depth .now) (s .args .size .now) (s .args .above .now) m (l .i) (l .at) (l .cells) (omega arith) (l .inv .2 ps m) e in
-          gather-more ps (s .args .order .now) (s .args .depth .now) (s .args .size .now) (s .args .above .now) m (l .i) (l .at) (l .cells) (omega arith) (l .inv .2 ps m) e (c .before .number .result) (c .parent-word .result) (c .before .number .ensures .0 _ _ _ q k b) (c .parent-word .ensures ps (climbs-from ps (s .args .order .now) (s .args .depth .now) (s .args .size .now) (s .args .above .now) m)),
+          let e = sym (turn .group-root .ensures ps (m .families)) ∙ c .before .before .before .before .if2 .taken in
+          let k = group-size ps (s .args .order .now) (s .args .depth .now) (s .args .size .now) (s .args .above .now) m (l .next .0) (l .cell) (l .cells) (omega arith) (l .inv .2 ps m) in
+          let q = group-depths ps (s .args .order .now) (s .args .depth .now) (s .args .size .now) (s .args .above .now) m (l .next .0) (l .cell) (l .cells) (omega arith) (l .inv .2 ps m) in
+          let b = group-small ps (s .args .order .now) (s .args .depth .now) (s .args .size .now) (s .args .above .now) m (l .next .0) (l .cell) (l .cells) (omega arith) (l .inv .2 ps m) e in
+          gather-more ps (s .args .order .now) (s .args .depth .now) (s .args .size .now) (s .args .above .now) m (l .next .0) (l .cell) (l .cells) (omega arith) (l .inv .2 ps m) e (c .before .number .result) (c .parent-word .result) (c .before .number .ensures .0 _ _ _ q k b) (c .parent-word .ensures ps (climbs-from ps (s .args .order .now) (s .args .depth .now) (s .args .size .now) (s .args .above .now) m)),
     )
 
 loop-again-2 : tie.Need-loop-again-2 Inv-loop μ-loop
 loop-again-2 c =
-    let l = c .before .before .before .loop in
-    let s = c .before .before .before .before .before .before .before .before .before .before .before .before .before in (
+    let l = c .before .before .before .before .before .loop in
+    let s = c .before .before .before .before .before .before .before .before .before .before .before .before .before .before .before in (
       omega arith,
       record { few = l .inv .1 .few; sizes = l .inv .1 .sizes; room = l .inv .1 .room; used = omega arith },
-      λ ps m. gather-same ps (s .args .order .now) (s .args .depth .now) (s .args .size .now) (s .args .above .now) m (l .i) (l .at) (l .cells) (omega arith) (l .inv .2 ps m) (sym (c .before .group-root .ensures ps (m .families)) ∙ c .if1 .left),
+      λ ps m. gather-same ps (s .args .order .now) (s .args .depth .now) (s .args .size .now) (s .args .above .now) m (l .next .0) (l .cell) (l .cells) (omega arith) (l .inv .2 ps m) (sym (c .before .group-root .ensures ps (m .families)) ∙ c .if2 .left),
     )
 
 same-length : tie.Need-same-length Inv-loop μ-loop
 same-length c =
-    let l = c .before .loop in
-    let s = c .before .before .before .before .before .before .before .before .before .before .before in
+    let l = c .before .before .loop in
+    let s = c .before .before .before .before .before .before .before .before .before .before .before .before in
     l .inv .1 .room ∙ sym (s .pre .1)
 
 returns : tie.Need-returns Inv-loop μ-loop
 returns c ps m =
-    let l = c .before .loop in
-    let s = c .before .before .before .before .before .before .before .before .before .before .before in
-    gather-end ps (s .args .order .now) (s .args .depth .now) (s .args .size .now) (s .args .above .now) m (l .i) (l .at) (l .cells) (omega arith) (l .inv .2 ps m)
+    let l = c .before .before .loop in
+    let s = c .before .before .before .before .before .before .before .before .before .before .before .before in
+    gather-end ps (s .args .order .now) (s .args .depth .now) (s .args .size .now) (s .args .above .now) m (l .next .0) (l .cell) (l .cells) (omega arith) (l .inv .2 ps m)
 
 pub groups-spec : {M : Type 1} → statement M
 groups-spec =
@@ -122,7 +122,8 @@ groups-spec =
     (λ c. search needs)
     (λ c. search needs)
     (λ c. search needs)
-    cast-number
+    (λ c. search needs)
+    cast-number-2
     (λ c κs. search needs)
     (λ c. search needs)
     (λ c. search needs)

@@ -1,4 +1,4 @@
--- `spread::positions` meets its contract: the loop has written the first i positions. Assumes nothing.
+-- `spread::positions` meets its contract: the loop has written the positions before `at`. Assumes nothing.
 use mathlib.Core.Path.{refl}
 use Prim.Native.Nat.{_-_}
 use native.Mathlib.Omega.{arith}
@@ -11,31 +11,31 @@ use Rattle.fill.proofs.spread.positions.Statement.{statement}
 use Rattle.fill.proofs.spread.positions.Tie as tie
 
 abbrev Inv-loop : tie.InvT-loop
-Inv-loop order cells₀ i₀ cells i = Written order (λ k. k) cells₀ i cells
+Inv-loop order cells₀ at₀ cells at = Written order (λ k. k) cells₀ (at .0) cells
 
 abbrev μ-loop : tie.MeasureT-loop
-μ-loop order cells₀ i₀ cells i = length order - i
+μ-loop order cells₀ at₀ cells at = length order - at .0
 
 slice-write-cells : tie.Need-slice-write-cells Inv-loop μ-loop
 slice-write-cells c =
-    let l = c .before .before .before .loop in
-    let s = c .before .before .before .before in
-    written-room (s .args .order .now) _ (s .args .cells .now) (s .pre .0) (l .i) (l .cells) (omega arith) (l .inv)
+    let l = c .before .before .before .before .before .loop in
+    let s = c .before .before .before .before .before .before in
+    written-room (s .args .order .now) _ (s .args .cells .now) (s .pre .0) (l .at .0) (l .cells) (omega arith) (l .inv)
 
 loop-again : tie.Need-loop-again Inv-loop μ-loop
 loop-again c =
-    let l = c .before .before .before .loop in
-    let s = c .before .before .before .before in
-    written-more (s .args .order .now) _ (s .args .cells .now) (s .pre .0) (l .i) (l .cells) (omega arith) (l .inv) _ refl
+    let l = c .before .before .before .before .before .before .loop in
+    let s = c .before .before .before .before .before .before .before in
+    written-more (s .args .order .now) _ (s .args .cells .now) (s .pre .0) (l .at .0) (l .cells) (omega arith) (l .inv) _ refl
 
 returns : tie.Need-returns Inv-loop μ-loop
 unfolding Placed
 returns c ps few tree ord =
-    let l = c .before .loop in
-    let s = c .before .before in
+    let l = c .before .before .loop in
+    let s = c .before .before .before in
     written-all ps few tree (s .args .order .now) ord (position ps) (λ k. k)
     (λ v h. refl)
-    (s .args .cells .now) (l .i) (l .cells) (s .pre .0 .room) (omega arith) (l .inv)
+    (s .args .cells .now) (l .at .0) (l .cells) (s .pre .0 .room) (omega arith) (l .inv)
 
 pub positions-spec : {M : Type 1} → statement M
 positions-spec =
@@ -49,9 +49,10 @@ positions-spec =
     (λ c. search needs)
     (λ c. search needs)
     (λ c. search needs)
+    (λ c. search needs)
     slice-write-cells
     (λ c. search needs)
     (λ c. search needs)
     loop-again
-    (λ c. c .before .loop .inv .1)
+    (λ c. c .before .before .loop .inv .1)
     returns)

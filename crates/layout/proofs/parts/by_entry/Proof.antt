@@ -21,6 +21,7 @@ scatter-requires c κs =
     let w = s .pre .0 in
     let front = mid-len 0 n xs (omega (arith, w .room)) in (
       order-indexes (s .args .parents .now) (w .few) (w .tree) _ _ (lent-view 0 n n xs (omega arith) ∙ w .orders) (mid-len (s .args .a) (s .args .a + n) (s .args .table .now) (s .pre .2) ∙ omega arith),
+      omega (arith, front, w .few),
       omega (arith, front, mid-len (s .args .region) (s .args .region + n) xs (omega (arith, w .room))),
     )
 

@@ -20,7 +20,7 @@ returns c =
     let n = f1 .before in
     let a = n .before .args in (
       omega (arith, c .with-field4 .ensures .0, k .with-class .ensures .0, f3 .with-field3 .ensures .0, f2 .with-field2 .ensures .0, f1 .with-field .ensures .0, n .nothing .ensures .0),
-      five-fields (decimal (a .v)) (decimal (a .d)) (decimal (a .number)) (cond (eqb (a .number) 0) (decimal (a .word)) (dash ∷ [])) (decimal (a .cells)) (n .nothing .ensures .1) (f1 .with-field .ensures .1) (f2 .with-field2 .ensures .1) (f3 .with-field3 .ensures .1) (k .with-class .ensures .1) (c .with-field4 .ensures .1),
+      five-fields (decimal (a .v .0)) (decimal (a .d)) (decimal (a .number)) (cond (eqb (a .number) 0) (decimal (a .word)) (dash ∷ [])) (decimal (a .cells)) (n .nothing .ensures .1) (f1 .with-field .ensures .1) (f2 .with-field2 .ensures .1) (f3 .with-field3 .ensures .1) (k .with-class .ensures .1) (c .with-field4 .ensures .1),
     )
 
 pub reply-row-spec : {M : Type 1} → statement M

@@ -1,4 +1,4 @@
--- `link::link` meets its contract. The entries from i on are linked. Assumes nothing.
+-- `link::link` meets its contract. The entries from `end` on are linked. Assumes nothing.
 use mathlib.Core.Path.{_≡_, refl, _∙_}
 use mathlib.Core.Logic.{⊎-elim}
 use Prim.Native.Nat.{_+_, _*_, _-_, _≤_, _<_}
@@ -14,11 +14,11 @@ use Rattle.prepare.proofs.link.link.Statement.{statement}
 use Rattle.prepare.proofs.link.link.Tie as tie
 
 abbrev Inv-loop : tie.InvT-loop
-Inv-loop parents space₀ n a b first₀ i₀ space first i =
-    (n ≡ length parents) × (a ≡ 2 * length parents) × (b ≡ 3 * length parents) × (i ≤ n) × (6 * length parents ≤ length space) × Linked parents i (heads parents space) (nexts parents space) (first .0) × (length space ≡ length space₀)
+Inv-loop parents space₀ n a b first₀ end₀ space first end =
+    (n ≡ length parents) × (a ≡ 2 * length parents) × (b ≡ 3 * length parents) × (end .0 ≤ n) × (6 * length parents ≤ length space) × Linked parents (end .0) (heads parents space) (nexts parents space) (first .0) × (length space ≡ length space₀)
 
 abbrev μ-loop : tie.MeasureT-loop
-μ-loop parents space₀ n a b first₀ i₀ space first i = i
+μ-loop parents space₀ n a b first₀ end₀ space first end = end .0
 
 loop-holds : tie.Need-loop-holds Inv-loop μ-loop
 loop-holds c =
@@ -45,49 +45,48 @@ start b = b .before .before .before .before .before .before .before
 
 loop-again : tie.Need-loop-again Inv-loop μ-loop
 loop-again c =
-    let n = c .before .before .before in
-    let b = n .before .before .before .before in
+    let b = c .before .before .before .before .before .before .before .before .before .before .before in
     let l = b .loop in
     let ps = start b .args .parents .now in
-    let q = word ps (l .i - 1) in (
+    let q = word ps (l .end .0 - 1) in (
       l .inv .0,
       l .inv .1,
       l .inv .2,
       omega arith,
       simp length-set (l .inv .4),
-      link-below-in ps (l .space) (omega arith) (l .inv .4) (l .i) (l .i - 1) (length ps * 2 + q) (length ps * 3 + (l .i - 1)) q (l .first .0) (omega arith) (omega arith) (omega arith) (omega arith) refl (n .if1 .taken) (l .inv .5),
+      link-below-in ps (l .space) (omega arith) (l .inv .4) (l .end .0) (l .end .0 - 1) (length ps * 2 + q) (length ps * 3 + (l .end .0 - 1)) q (l .first .0) (omega arith) (omega arith) (omega arith) (omega arith) refl (c .before .before .before .before .if2 .taken) (l .inv .5),
       simp length-set (l .inv .6),
     )
 
 loop-again-2 : tie.Need-loop-again-2 Inv-loop μ-loop
 loop-again-2 c =
-    let b = c .before .before .before .before in
+    let b = c .before .before .before .before .before .before .before .before in
     let l = b .loop in
     let ps = start b .args .parents .now in
-    let below : l .i - 1 < length ps = omega arith in
-    let own : word ps (l .i - 1) ≡ topMark =
-    ⊎-elim (λ h. absurd (omega (arith, c .if1 .left))) (λ e. e) (start b .pre .2 (l .i - 1) below)
+    let below : l .end .0 - 1 < length ps = omega arith in
+    let own : word ps (l .end .0 - 1) ≡ topMark =
+    ⊎-elim (λ h. absurd (omega (arith, c .before .if2 .left))) (λ e. e) (start b .pre .2 (l .end .0 - 1) below)
     in (
       l .inv .0,
       l .inv .1,
       l .inv .2,
       omega arith,
       simp length-set (l .inv .4),
-      link-top-in ps (l .space) (omega arith) (l .inv .4) (l .i) (l .i - 1) (length ps * 3 + (l .i - 1)) (l .first .0) (omega arith) below (omega arith) own (l .inv .5),
+      link-top-in ps (l .space) (omega arith) (l .inv .4) (l .end .0) (l .end .0 - 1) (length ps * 3 + (l .end .0 - 1)) (l .first .0) (omega arith) below (omega arith) own (l .inv .5),
       simp length-set (l .inv .6),
     )
 
 same-length : tie.Need-same-length Inv-loop μ-loop
 same-length c =
-    let b = c .before in
+    let b = c .before .before in
     let f = b .before .before .before in
     let n = length (start b .args .parents .now) in
     b .loop .inv .6 ∙ same-len-mid (n * 2) (n * 3 - n * 2) (start b .args .space .now) (f .set-all .last .0) (f .set-all .kept .0)
 
 returns : tie.Need-returns Inv-loop μ-loop
 returns c =
-    let l = c .before .loop in
-    let z : l .i ≡ 0 = omega arith in
+    let l = c .before .before .loop in
+    let z : l .end .0 ≡ 0 = omega arith in
     rw z at (l .inv .5)
 
 pub link-spec : {M : Type 1} → statement M
@@ -103,7 +102,9 @@ link-spec =
     (λ c. search needs)
     (λ c. search needs)
     (λ c κs. search needs)
+    (λ c. search needs)
     loop-holds
+    (λ c. search needs)
     (λ c. search needs)
     (λ c. search needs)
     (λ c. search needs)

@@ -9,10 +9,10 @@ use Rattle.prepare.proofs.lost.first_unmarked.Statement.{statement}
 use Rattle.prepare.proofs.lost.first_unmarked.Tie as tie
 
 abbrev Inv-loop : tie.InvT-loop
-Inv-loop marks i₀ i = Passed (λ v. eqb (getD marks v 0) 0) (length marks) i
+Inv-loop marks v₀ v = Passed (λ v. eqb (getD marks v 0) 0) (length marks) (v .0)
 
 abbrev μ-loop : tie.MeasureT-loop
-μ-loop marks i₀ i = length marks - i
+μ-loop marks v₀ v = length marks - v .0
 
 pub first-unmarked-spec : {M : Type 1} → statement M
 first-unmarked-spec =
@@ -24,9 +24,9 @@ first-unmarked-spec =
     (λ c. search needs)
     (λ c. search needs)
     (λ c. search needs)
-    (λ c. pass-hit _ _ _ (c .before .before .loop-test .taken) (eq-eqb _ _ (c .if1 .taken)) (c .before .before .before .loop .inv))
+    (λ c. search needs)
+    (λ c. pass-hit _ _ _ (c .before .before .before .if1 .taken) (eq-eqb _ _ (c .if2 .taken)) (c .before .before .before .before .before .loop .inv))
     (λ c. search needs)
     (λ c. search needs)
-    (λ c. pass-more _ _ _ (c .before .before .loop-test .taken) (ne-eqb _ _ (c .if1 .left)) (c .before .before .before .loop .inv))
-    (λ c. search needs)
-    (λ c. pass-end _ _ _ (c .loop-test .left) (c .before .loop .inv)))
+    (λ c. pass-more _ _ _ (c .before .before .before .before .if1 .taken) (ne-eqb _ _ (c .before .if2 .left)) (c .before .before .before .before .before .before .loop .inv))
+    (λ c. pass-end _ _ _ (c .if1 .left) (c .before .before .loop .inv)))

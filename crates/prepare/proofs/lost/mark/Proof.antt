@@ -16,11 +16,11 @@ use Rattle.prepare.proofs.lost.mark.Statement.{statement}
 use Rattle.prepare.proofs.lost.mark.Tie as tie
 
 abbrev Inv-loop : tie.InvT-loop
-Inv-loop parents count space₀ n a b i₀ space i =
-    (a ≡ 5 * length parents) × (i ≤ count) × (6 * length parents ≤ length space) × (view 0 count space ≡ order parents) × Marking parents i (view (5 * length parents) (length parents) space) × (length space ≡ length space₀)
+Inv-loop parents count space₀ n a b at₀ space at =
+    (a ≡ 5 * length parents) × (at .0 ≤ count) × (6 * length parents ≤ length space) × (view 0 count space ≡ order parents) × Marking parents (at .0) (view (5 * length parents) (length parents) space) × (length space ≡ length space₀)
 
 abbrev μ-loop : tie.MeasureT-loop
-μ-loop parents count space₀ n a b i₀ space i = count - i
+μ-loop parents count space₀ n a b at₀ space at = count - at .0
 
 loop-holds : tie.Need-loop-holds Inv-loop μ-loop
 loop-holds c =
@@ -40,40 +40,40 @@ loop-holds c =
 abbrev start : tie.At-loop Inv-loop μ-loop → tie.Start Inv-loop μ-loop
 start b = b .before .before .before .before .before .before .before
 
-low : (c : tie.After-slice-known3 Inv-loop μ-loop) → getD (c .before .before .loop .space) (c .before .before .loop .i) 0 < length (start (c .before .before) .args .parents .now)
+low : (c : tie.After-slice-known3 Inv-loop μ-loop) → getD (c .before .before .before .before .loop .space) (c .before .before .before .before .loop .at .0) 0 < length (start (c .before .before .before .before) .args .parents .now)
 low c =
-    let b = c .before .before in
+    let b = c .before .before .before .before in
     let s = start b in
     let l = b .loop in
-    word-low (s .args .parents .now) (l .space) (omega arith) (l .inv .2) (s .args .count) (l .i) (omega arith) (s .pre .2) (l .inv .3)
+    word-low (s .args .parents .now) (l .space) (omega arith) (l .inv .2) (s .args .count) (l .at .0) (omega arith) (s .pre .2) (l .inv .3)
 
 loop-again : tie.Need-loop-again Inv-loop μ-loop
 loop-again c =
-    let b = c .before .before .before in
+    let b = c .before .before .before .before .before .before in
     let s = start b in
     let l = b .loop in
     let ps = s .args .parents .now in
-    let q = length ps * 5 + getD (l .space) (l .i) 0 in
-    let e : q ≡ 5 * length ps + getD (l .space) (l .i) 0 = omega arith in (
+    let q = length ps * 5 + getD (l .space) (l .at .0) 0 in
+    let e : q ≡ 5 * length ps + getD (l .space) (l .at .0) 0 = omega arith in (
       l .inv .0,
       omega arith,
       simp length-set (l .inv .2),
-      order-kept ps (l .space) (omega arith) (l .inv .2) (s .args .count) (l .i) (omega arith) (s .pre .2) (l .inv .3) q e,
-      mark-in ps (l .space) (omega arith) (l .inv .2) (s .args .count) (l .i) (omega arith) (s .pre .2) (l .inv .3) q e (l .inv .4),
+      order-kept ps (l .space) (omega arith) (l .inv .2) (s .args .count) (l .at .0) (omega arith) (s .pre .2) (l .inv .3) q e,
+      mark-in ps (l .space) (omega arith) (l .inv .2) (s .args .count) (l .at .0) (omega arith) (s .pre .2) (l .inv .3) q e (l .inv .4),
       simp length-set (l .inv .5),
     )
 
 same-length : tie.Need-same-length Inv-loop μ-loop
 same-length c =
-    let b = c .before in
+    let b = c .before .before in
     let f = b .before .before .before in
     let n = length (start b .args .parents .now) in
     b .loop .inv .5 ∙ same-len-mid (n * 5) (n * 6 - n * 5) (start b .args .space .now) (f .set-all .last .0) (f .set-all .kept .0)
 
 returns : tie.Need-returns Inv-loop μ-loop
 returns c =
-    let l = c .before .loop in
-    mark-end (start (c .before) .args .parents .now) (omega arith) _ (l .i) (omega arith) (l .inv .4)
+    let l = c .before .before .loop in
+    mark-end (start (c .before .before) .args .parents .now) (omega arith) _ (l .at .0) (omega arith) (l .inv .4)
 
 pub mark-spec : {M : Type 1} → statement M
 mark-spec =
@@ -89,13 +89,15 @@ mark-spec =
     (λ c. search needs)
     (λ c κs. search needs)
     loop-holds
-    (λ c. omega (arith, order-short (start (c .before) .args .parents .now) (omega arith)))
-    (λ c. omega (arith, order-short (start (c .before .before) .args .parents .now) (omega arith)))
+    (λ c. search needs)
+    (λ c. search needs)
+    (λ c. omega (arith, order-short (start (c .before .before .before) .args .parents .now) (omega arith)))
+    (λ c. omega (arith, order-short (start (c .before .before .before .before) .args .parents .now) (omega arith)))
     (λ c. search needs)
     (λ c. omega (arith, low (c .before)))
     (λ c. omega (arith, low (c .before)))
     (λ c. omega (arith, low (c .before)))
-    (λ c. search needs)
+    (λ c. omega (arith, order-short (start (c .before .before .before .before .before .before) .args .parents .now) (omega arith)))
     (λ c. search needs)
     loop-again
     same-length

@@ -9,10 +9,10 @@ use Rattle.prepare.proofs.stray.first_stray.Statement.{statement}
 use Rattle.prepare.proofs.stray.first_stray.Tie as tie
 
 abbrev Inv-loop : tie.InvT-loop
-Inv-loop parents i₀ i = Passed (isStray parents) (length parents) i
+Inv-loop parents v₀ v = Passed (isStray parents) (length parents) (v .0)
 
 abbrev μ-loop : tie.MeasureT-loop
-μ-loop parents i₀ i = length parents - i
+μ-loop parents v₀ v = length parents - v .0
 
 pub first-stray-spec : {M : Type 1} → statement M
 first-stray-spec =
@@ -26,11 +26,11 @@ first-stray-spec =
     (λ c. search needs)
     (λ c. search needs)
     (λ c. search needs)
-    (λ c. let b = c .before .before .before .before in pass-more _ _ _ (omega arith) (entry-fine _ _ (c .if1 .taken)) (b .loop .inv))
     (λ c. search needs)
     (λ c. search needs)
-    (λ c. let b = c .before .before .before .before .before .before in pass-more _ _ _ (omega arith) (top-fine _ _ (c .if2 .taken)) (b .loop .inv))
+    (λ c. pass-more _ _ _ (c .before .before .before .before .before .if1 .taken) (entry-fine _ _ (c .before .if2 .taken)) (c .before .before .before .before .before .before .before .loop .inv))
     (λ c. search needs)
-    (λ c. let b = c .before .before .before .before .before .before in pass-hit _ _ _ (omega arith) (other-stray _ _ (c .before .before .if1 .left) (c .if2 .left)) (b .loop .inv))
     (λ c. search needs)
-    (λ c. pass-end _ _ _ (c .loop-test .left) (c .before .loop .inv)))
+    (λ c. pass-more _ _ _ (c .before .before .before .before .before .before .before .if1 .taken) (top-fine _ _ (c .before .if3 .taken)) (c .before .before .before .before .before .before .before .before .before .loop .inv))
+    (λ c. pass-hit _ _ _ (c .before .before .before .before .before .before .if1 .taken) (other-stray _ _ (c .before .before .if2 .left) (c .if3 .left)) (c .before .before .before .before .before .before .before .before .loop .inv))
+    (λ c. pass-end _ _ _ (c .if1 .left) (c .before .before .loop .inv)))

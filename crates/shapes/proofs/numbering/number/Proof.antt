@@ -14,12 +14,15 @@ use Rattle.shapes.proofs.numbering.number.Tie as tie
 sub-if4 : tie.Need-sub-if4
 sub-if4 c = search needs
 
+cast-if4 : tie.Need-cast-if4
+cast-if4 c = search needs
+
 -- a group's depths pass each test
 returns : tie.Need-returns
 returns c =
     let a = c .before .before .args in (
       (λ f d rest e n b.
-          let h : a .from + suc (forestSize f) ≤ length (a .depths .now) = part-fits (a .depths .now) (a .from) f d rest e in
+          let h : a .from .0 + suc (forestSize f) ≤ length (a .depths .now) = part-fits (a .depths .now) (a .from .0) f d rest e in
           absurd
           (⊎-elim
           (λ w. omega arith)
@@ -29,8 +32,14 @@ returns c =
     )
 
 -- what the tests leave is a part of the depths, which is the group's
+cast-end : tie.Need-cast-end
+cast-end c = search needs
+
 add-end : tie.Need-add-end
 add-end c = omega (arith, ltb-false)
+
+cast-ranked : tie.Need-cast-ranked
+cast-ranked c = search needs
 
 mul-ranked : tie.Need-mul-ranked
 mul-ranked c = omega (arith, ltb-false)
@@ -49,13 +58,14 @@ ranked-requires c κs = simp (length-take, length-drop) (omega (arith, ltb-false
 
 returns-2 : tie.Need-returns-2
 returns-2 c =
-    let a = c .before .before .before .before .before .before .before .args in (
+    let a = c .before .before .before .before .before .before .before .before .before .before .args in (
       (λ f d rest e n b.
-          let k : a .from + a .entries - a .from ≡ suc (forestSize f) = omega arith in
-          c .ranked .ensures .is f d (rw k (part-levels (a .depths .now) (a .from) f d rest e))),
+          let k : a .from .0 + a .entries - a .from .0 ≡ suc (forestSize f) = omega arith in
+          c .ranked .ensures .is f d (rw k (part-levels (a .depths .now) (a .from .0) f d rest e))),
       c .ranked .ensures .small,
     )
 
 pub number-spec : {M : Type 1} → statement M
 number-spec =
-    tie.close (tie.spec sub-if4 returns add-end mul-ranked sub-ranked part-ranked-start part-ranked-end ranked-requires returns-2)
+    tie.close
+    (tie.spec sub-if4 cast-if4 returns cast-end add-end cast-ranked mul-ranked sub-ranked part-ranked-start part-ranked-end ranked-requires returns-2)

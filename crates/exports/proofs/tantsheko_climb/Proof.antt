@@ -1,0 +1,17 @@
+-- `tantsheko_climb` meets its contract. Assumes nothing.
+use mathlib.Core.Path.{ap, _∙_}
+use borrow.Author.Needs.{needs}
+use Rattle.exports.specs.Words.{answerWords}
+use Rattle.exports.proofs.tantsheko_climb.Statement.{statement}
+use Rattle.exports.proofs.tantsheko_climb.Tie as tie
+
+returns : tie.Need-returns
+returns c = c .words .ensures ∙ ap answerWords (c .before .climb .ensures .0)
+
+pub tantsheko-climb-spec : {M : Type 1} → statement M
+tantsheko-climb-spec =
+    tie.close
+    (tie.spec
+    (λ c κs. search needs)
+    (λ c κs. search needs)
+    returns)

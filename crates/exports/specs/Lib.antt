@@ -1,0 +1,2 @@
+-- How an answer stands in words.
+pub mod Words

@@ -1,0 +1,141 @@
+//! What was measured, as lines and as a page.
+
+use crate::work::{median, Row, QUESTIONS};
+
+fn ratio(pair: [f64; 2]) -> f64 {
+    pair[0] / pair[1]
+}
+
+/// A tree's line on the terminal.
+pub fn line(row: &Row) -> String {
+    let q: Vec<String> = QUESTIONS
+        .iter()
+        .zip(row.questions)
+        .map(|(name, t)| format!("{name} {:.0} ({:.2})", t[0], ratio(t)))
+        .collect();
+    format!(
+        "{:7} {:12} prepare {:5.1} ({:.2})  {}  plain climb {:.0}, lifting {:.0}",
+        row.n,
+        row.kind,
+        row.prepare[0],
+        ratio(row.prepare),
+        q.join("  "),
+        row.climb,
+        row.lifting
+    )
+}
+
+/// The medians of all ratios, and the greatest of them by kind.
+pub fn summary(rows: &[Row]) -> String {
+    let all = |f: &dyn Fn(&Row) -> f64| rows.iter().map(f).collect::<Vec<f64>>();
+    let mut text = format!(
+        "Preparing: median ratio {:.2}.",
+        median(all(&|r| ratio(r.prepare)))
+    );
+    for (q, name) in QUESTIONS.iter().enumerate() {
+        text.push_str(&format!(
+            " {}{}: {:.2}.",
+            name[..1].to_uppercase(),
+            &name[1..],
+            median(all(&|r| ratio(r.questions[q])))
+        ));
+    }
+    let mut kinds: Vec<&str> = rows.iter().map(|r| r.kind).collect();
+    kinds.dedup();
+    kinds.truncate(7);
+    let by_kind = |kind: &str| {
+        let own = rows.iter().filter(|r| r.kind == kind);
+        median(own.map(|r| ratio(r.questions[0])).collect())
+    };
+    let listed: Vec<String> = kinds
+        .iter()
+        .map(|k| format!("{k} {:.2}", by_kind(k)))
+        .collect();
+    text.push_str(&format!(
+        " Level lookup, median by kind: {}.",
+        listed.join(", ")
+    ));
+    text
+}
+
+/// A line of a file of the system's that starts with a name.
+fn system(path: &str, name: &str) -> Option<String> {
+    let text = std::fs::read_to_string(path).ok()?;
+    let line = text.lines().find(|l| l.starts_with(name))?;
+    Some(line.split_once(':')?.1.trim().to_string())
+}
+
+fn machine() -> String {
+    let cores = std::thread::available_parallelism().map_or(0, |c| c.get());
+    let model = system("/proc/cpuinfo", "model name").unwrap_or_else(|| "unknown processor".into());
+    let memory = system("/proc/meminfo", "MemTotal").unwrap_or_else(|| "unknown".into());
+    format!("{model}, {cores} cores in use, memory {memory}")
+}
+
+fn prepare_table(rows: &[Row]) -> String {
+    let mut text =
+        String::from("| entries | kind | proved | by hand | ratio |\n|---:|---|---:|---:|---:|\n");
+    for r in rows {
+        let [a, b] = r.prepare;
+        text.push_str(&format!(
+            "| {} | {} | {a:.1} | {b:.1} | {:.2} |\n",
+            r.n,
+            r.kind,
+            ratio(r.prepare)
+        ));
+    }
+    text
+}
+
+fn question_table(rows: &[Row]) -> String {
+    let heads = QUESTIONS.join(" | ");
+    let mut text = format!(
+        "| entries | kind | {heads} | plain climb | binary lifting |\n|---:|---|{}---:|---:|\n",
+        "---:|".repeat(QUESTIONS.len())
+    );
+    for r in rows {
+        let cells: Vec<String> = r
+            .questions
+            .iter()
+            .map(|&[a, b]| format!("{a:.1} / {b:.1} = {:.2}", a / b))
+            .collect();
+        text.push_str(&format!(
+            "| {} | {} | {} | {:.0} | {:.1} |\n",
+            r.n,
+            r.kind,
+            cells.join(" | "),
+            r.climb,
+            r.lifting
+        ));
+    }
+    text
+}
+
+/// The whole page.
+pub fn page(rows: &[Row]) -> String {
+    format!(
+        "# Benchmark
+
+Written by the benchmark itself (`host/run bench`). Every figure is a median of runs that take turns in one process:
+the proved code through its C interface, and the same work by hand in Rust (`host/reference`), cell list included. Trees
+have their numbers permuted. Preparing is in nanoseconds an entry, a question in nanoseconds. A plain climb and binary
+lifting answer the level lookup only, and list no cells.
+
+Machine: {}.
+
+{}
+
+![Ratios of the proved code to the same work by hand](benchmark.svg)
+
+## Preparing, ns an entry
+
+{}
+## Questions, ns: proved / by hand = ratio
+
+{}",
+        machine(),
+        summary(rows),
+        prepare_table(rows),
+        question_table(rows)
+    )
+}

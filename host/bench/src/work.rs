@@ -1,0 +1,183 @@
+//! What is timed: each piece of work by turns in one run, and its median.
+
+use crate::trees;
+use std::hint::black_box;
+use std::time::Instant;
+use tantsheko::{prepare_into, Table};
+
+/// The five questions, as the page names them.
+pub const QUESTIONS: [&str; 5] = ["level", "climb", "rating", "ancestry", "branch"];
+
+/// The medians of a tree, in nanoseconds: preparing by entry, a question by question.
+pub struct Row {
+    pub n: usize,
+    pub kind: &'static str,
+    /// Proved, by hand.
+    pub prepare: [f64; 2],
+    /// Proved, by hand, of each question.
+    pub questions: [[f64; 2]; 5],
+    /// The level lookup by a plain climb, and by binary lifting; neither lists cells.
+    pub climb: f64,
+    pub lifting: f64,
+}
+
+pub fn median(mut times: Vec<f64>) -> f64 {
+    times.sort_by(f64::total_cmp);
+    times[times.len() / 2]
+}
+
+/// Nanoseconds of a piece of work, by so many units of it.
+fn clock<T>(units: usize, work: impl FnOnce() -> T) -> f64 {
+    let start = Instant::now();
+    black_box(work());
+    start.elapsed().as_nanos() as f64 / units as f64
+}
+
+fn prepare_times(parents: &[u32]) -> ([f64; 2], Vec<u32>) {
+    let n = parents.len();
+    let (w, s) = (reference::table_words(n), reference::space_words(n));
+    let (mut ta, mut tb, mut space) = (vec![0; w], vec![0; w], vec![0; s]);
+    let (mut a, mut b) = (Vec::new(), Vec::new());
+    for _ in 0..(4_000_000 / n).clamp(9, 41) {
+        a.push(clock(n, || prepare_into(parents, &mut ta, &mut space)));
+        b.push(clock(n, || {
+            reference::prepare(parents, &mut tb, &mut space)
+        }));
+    }
+    assert!(ta == tb, "the two tables are the same");
+    ([median(a), median(b)], ta)
+}
+
+/// Both ways of a question over the same arguments.
+fn question_times(
+    asked: &[(u32, u32)],
+    ours: impl Fn(u32, u32) -> tantsheko::Answer,
+    theirs: impl Fn(u32, u32) -> reference::Answer,
+) -> [f64; 2] {
+    let (mut a, mut b) = (Vec::new(), Vec::new());
+    for _ in 0..11 {
+        a.push(clock(asked.len(), || {
+            asked.iter().fold(0, |x, &(u, v)| {
+                let r = ours(u, v);
+                x ^ r.number() ^ r.places()[r.cells().len() - 1]
+            })
+        }));
+        b.push(clock(asked.len(), || {
+            asked.iter().fold(0, |x, &(u, v)| {
+                let r = theirs(u, v);
+                x ^ r.number ^ r.cells[r.count as usize - 1]
+            })
+        }));
+    }
+    [median(a), median(b)]
+}
+
+/// The ancestors 1, 2, 4, .. above each entry.
+fn lift(parents: &[u32], levels: usize) -> Vec<Vec<u32>> {
+    let top = |v: usize| {
+        if parents[v] == u32::MAX {
+            v as u32
+        } else {
+            parents[v]
+        }
+    };
+    let mut table = vec![(0..parents.len()).map(top).collect::<Vec<u32>>()];
+    for k in 1..levels {
+        let below = &table[k - 1];
+        let above = below.iter().map(|&v| below[v as usize]).collect();
+        table.push(above);
+    }
+    table
+}
+
+fn other_times(parents: &[u32], depth: &[u32], asked: &[(u32, u32)]) -> (f64, f64) {
+    let most = depth.iter().max().copied().unwrap_or(0);
+    let lifts = lift(parents, 32 - most.leading_zeros() as usize);
+    // A plain climb in a deep tree takes long: fewer questions.
+    let few = &asked[..asked.len().min(40_000_000 / (most as usize + 1)).max(50)];
+    let (mut a, mut b) = (Vec::new(), Vec::new());
+    for _ in 0..5 {
+        a.push(clock(few.len(), || {
+            few.iter().fold(0, |x, &(v, d)| {
+                let mut at = v;
+                for _ in d..depth[v as usize] {
+                    at = parents[at as usize];
+                }
+                x ^ at
+            })
+        }));
+        b.push(clock(asked.len(), || {
+            asked.iter().fold(0, |x, &(v, d)| {
+                let (mut at, mut rest) = (v, depth[v as usize] - d);
+                while rest > 0 {
+                    at = lifts[rest.trailing_zeros() as usize][at as usize];
+                    rest &= rest - 1;
+                }
+                x ^ at
+            })
+        }));
+    }
+    (median(a), median(b))
+}
+
+/// Times a tree of a kind, with its numbers permuted.
+pub fn time(n: usize, kind: usize, name: &'static str) -> Row {
+    let parents = trees::make(kind, n, 7 + n as u64, true);
+    let (prepare, words) = prepare_times(&parents);
+    let table = Table::from_words(words);
+    let words = table.words();
+    let depth = &words[4..4 + n];
+    let mut seed = 99;
+    let mut below = |k: usize| (trees::next(&mut seed) % k as u64) as u32;
+    // An entry with a depth up to its own; with its climbs; and with one of its ancestors, as the upper of two.
+    let level: Vec<(u32, u32)> = (0..200_000)
+        .map(|_| {
+            let v = below(n);
+            (v, below(depth[v as usize] as usize + 1))
+        })
+        .collect();
+    let pairs: Vec<(u32, u32)> = level
+        .iter()
+        .map(|&(v, d)| (table.level(v, d).result().unwrap_or(v), v))
+        .collect();
+    let climb: Vec<(u32, u32)> = level
+        .iter()
+        .map(|&(v, d)| (v, depth[v as usize] - d))
+        .collect();
+    let questions = [
+        question_times(
+            &level,
+            |v, d| table.level(v, d),
+            |v, d| reference::level(words, v, d),
+        ),
+        question_times(
+            &climb,
+            |v, k| table.climb(v, k),
+            |v, k| reference::climb(words, v, k),
+        ),
+        question_times(
+            &level,
+            |v, d| table.rating(v, d),
+            |v, d| reference::rating(words, v, d),
+        ),
+        question_times(
+            &pairs,
+            |u, v| table.ancestry(u, v),
+            |u, v| reference::ancestry(words, u, v),
+        ),
+        question_times(
+            &pairs,
+            |u, v| table.branch(u, v),
+            |u, v| reference::branch(words, u, v),
+        ),
+    ];
+    let (climb, lifting) = other_times(&parents, depth, &level);
+    Row {
+        n,
+        kind: name,
+        prepare,
+        questions,
+        climb,
+        lifting,
+    }
+}

@@ -1,0 +1,311 @@
+//! Preparing.
+
+use crate::shapes::number;
+use crate::{Sections, MICRO, MOST, TOP};
+
+/// W, the words of a table for n entries.
+pub fn table_words(n: usize) -> usize {
+    Sections { n }.words()
+}
+
+/// The words of the working space for n entries.
+pub fn space_words(n: usize) -> usize {
+    6 * n
+}
+
+/// Prepares the table of a parent list: 0 and W, or the number of a refusal and what it names.
+#[inline(never)]
+pub fn prepare(parents: &[u32], table: &mut [u32], space: &mut [u32]) -> (u32, u32) {
+    let n = parents.len();
+    if n == 0 || n > MOST {
+        return (1, 0);
+    }
+    let w = table_words(n);
+    if table.len() < w {
+        return (2, 0);
+    }
+    if space.len() < space_words(n) {
+        return (3, 0);
+    }
+    let space = &mut space[..6 * n];
+    let reply = match top_of(parents) {
+        Err(refusal) => refusal,
+        Ok(top) => match walk(parents, top, space) {
+            Err(refusal) => refusal,
+            Ok(()) => {
+                fill(parents, &mut table[..w], space);
+                (0, w as u32)
+            }
+        },
+    };
+    space.fill(0);
+    reply
+}
+
+/// The one top, or refusal 4 or 5.
+fn top_of(parents: &[u32]) -> Result<u32, (u32, u32)> {
+    let n = parents.len() as u32;
+    if let Some(v) = parents.iter().position(|&p| p != TOP && p >= n) {
+        return Err((4, v as u32));
+    }
+    let mut tops = (0..n).filter(|&v| parents[v as usize] == TOP);
+    match (tops.next(), tops.next()) {
+        (Some(top), None) => Ok(top),
+        (Some(_), Some(second)) => Err((5, second)),
+        (None, _) => Err((5, n)),
+    }
+}
+
+/// Preorder and depth by position into the first two parts of the space, or refusal 6.
+fn walk(parents: &[u32], top: u32, space: &mut [u32]) -> Result<(), (u32, u32)> {
+    let n = parents.len();
+    let (order, rest) = space.split_at_mut(n);
+    let (depths, rest) = rest.split_at_mut(n);
+    let (first, rest) = rest.split_at_mut(n);
+    let (next, rest) = rest.split_at_mut(n);
+    let (stack, seen) = rest.split_at_mut(n);
+    let seen = &mut seen[..n];
+    first.fill(TOP);
+    for v in (0..n).rev() {
+        let p = parents[v];
+        if p != TOP {
+            next[v] = first[p as usize];
+            first[p as usize] = v as u32;
+        }
+    }
+    next[top as usize] = TOP;
+    seen.fill(0);
+    let mut count = 0;
+    let mut held = 0;
+    let mut at = top;
+    let mut depth = 0u32;
+    loop {
+        order[count] = at;
+        depths[count] = depth;
+        seen[at as usize] = 1;
+        count += 1;
+        let down = first[at as usize];
+        if down != TOP {
+            stack[held] = next[at as usize];
+            held += 1;
+            depth += 1;
+            at = down;
+            continue;
+        }
+        let mut over = next[at as usize];
+        while over == TOP && held > 0 {
+            held -= 1;
+            depth -= 1;
+            over = stack[held];
+        }
+        if over == TOP {
+            break;
+        }
+        at = over;
+    }
+    if count < n {
+        let lost = seen.iter().position(|&s| s == 0).unwrap();
+        return Err((6, lost as u32));
+    }
+    Ok(())
+}
+
+/// All sections, from the preorder and the depths by position.
+fn fill(parents: &[u32], table: &mut [u32], space: &mut [u32]) {
+    let n = parents.len();
+    let s = Sections { n };
+    let (order, rest) = space.split_at_mut(n);
+    let (depth, rest) = rest.split_at_mut(n);
+    let (above, rest) = rest.split_at_mut(n);
+    let (size, rest) = rest.split_at_mut(n);
+    let (height, long) = rest.split_at_mut(n);
+    let (head, body) = table.split_at_mut(4);
+    let (depths, rest) = body.split_at_mut(n);
+    let (kinds, rest) = rest.split_at_mut(n);
+    let (ladpos, rest) = rest.split_at_mut(n);
+    let (orders, rest) = rest.split_at_mut(n);
+    let (pres, rest) = rest.split_at_mut(n);
+    let (sizes, rest) = rest.split_at_mut(n);
+    let (ladders, rest) = rest.split_at_mut(2 * n);
+    let (groups, jumps) = rest.split_at_mut(3 * n);
+    orders.copy_from_slice(order);
+    for (i, &v) in order.iter().enumerate() {
+        pres[v as usize] = i as u32;
+        depths[v as usize] = depth[i];
+    }
+    above_by_position(depth, above);
+    measure(above, size, height, long);
+    for (i, &v) in order.iter().enumerate() {
+        sizes[v as usize] = size[i];
+    }
+    let paths = lay_ladders(order, depth, above, height, long, ladpos, ladders);
+    let group_count = lay_groups(order, depth, above, size, kinds, groups);
+    let jump_count = lay_jumps(order, size, depth, kinds, ladpos, ladders, jumps);
+    debug_assert_eq!(4 + n * 11 + jumps.len(), s.words());
+    head.copy_from_slice(&[n as u32, jump_count, group_count, paths]);
+}
+
+/// The position above each, by a chain of the last entry of each depth.
+fn above_by_position(depth: &[u32], above: &mut [u32]) {
+    above[0] = TOP;
+    for i in 1..depth.len() {
+        let mut p = i as u32 - 1;
+        while depth[p as usize] >= depth[i] {
+            p = above[p as usize];
+        }
+        above[i] = p;
+    }
+}
+
+/// Size, height and the child of greatest height, the first of them on a tie, by position.
+fn measure(above: &[u32], size: &mut [u32], height: &mut [u32], long: &mut [u32]) {
+    let n = above.len();
+    size.fill(1);
+    height.fill(1);
+    long.fill(TOP);
+    for i in (1..n).rev() {
+        let p = above[i] as usize;
+        size[p] += size[i];
+        if height[i] + 1 >= height[p] {
+            height[p] = height[i] + 1;
+            long[p] = i as u32;
+        }
+    }
+}
+
+/// Ladders in preorder of their paths' tops, and each entry's place. Answers the number of paths.
+fn lay_ladders(
+    order: &[u32],
+    depth: &[u32],
+    above: &[u32],
+    height: &[u32],
+    long: &[u32],
+    ladpos: &mut [u32],
+    ladders: &mut [u32],
+) -> u32 {
+    let mut paths = 0;
+    let mut end = 0usize;
+    for i in 0..order.len() {
+        if i > 0 && long[above[i] as usize] == i as u32 {
+            continue;
+        }
+        paths += 1;
+        let over = height[i].min(depth[i]) as usize;
+        let start = end + over;
+        let mut p = i;
+        for k in (end..start).rev() {
+            p = above[p] as usize;
+            ladders[k] = order[p];
+        }
+        let mut place = start;
+        let mut p = i as u32;
+        while p != TOP {
+            let v = order[p as usize];
+            ladders[place] = v;
+            ladpos[v as usize] = place as u32;
+            place += 1;
+            p = long[p as usize];
+        }
+        end = place;
+    }
+    ladders[end..].fill(0);
+    paths
+}
+
+/// KIND of the micro entries, and GROUPS. Answers the number of groups.
+fn lay_groups(
+    order: &[u32],
+    depth: &[u32],
+    above: &[u32],
+    size: &[u32],
+    kinds: &mut [u32],
+    groups: &mut [u32],
+) -> u32 {
+    let mut count = 0u32;
+    let mut i = 0;
+    while i < order.len() {
+        if size[i] > 5 {
+            i += 1;
+            continue;
+        }
+        let end = i + size[i] as usize;
+        let at = 3 * count as usize;
+        groups[at] = i as u32;
+        groups[at + 1] = number(&depth[i..end]);
+        groups[at + 2] = if i == 0 {
+            TOP
+        } else {
+            order[above[i] as usize]
+        };
+        for (local, &v) in order[i..end].iter().enumerate() {
+            kinds[v as usize] = MICRO + 8 * count + local as u32;
+        }
+        count += 1;
+        i = end;
+    }
+    groups[3 * count as usize..].fill(0);
+    count
+}
+
+/// KIND of the other entries, and JUMPS. Answers the number of jump entries.
+#[allow(clippy::too_many_arguments)]
+fn lay_jumps(
+    order: &[u32],
+    size: &[u32],
+    depth: &[u32],
+    kinds: &mut [u32],
+    ladpos: &[u32],
+    ladders: &[u32],
+    jumps: &mut [u32],
+) -> u32 {
+    let mut count = 0;
+    // The last entry of size 6 or more so far: a jump entry if the next one lies past its family.
+    let mut last = None;
+    for i in 0..order.len() {
+        if size[i] < 6 {
+            continue;
+        }
+        if let Some(j) = last {
+            if j + size[j] as usize <= i {
+                lay_record(
+                    order[j],
+                    depth[j],
+                    ladpos,
+                    ladders,
+                    &mut jumps[21 * count..][..21],
+                );
+                count += 1;
+            }
+        }
+        kinds[order[i] as usize] = count as u32;
+        last = Some(i);
+    }
+    if let Some(j) = last {
+        lay_record(
+            order[j],
+            depth[j],
+            ladpos,
+            ladders,
+            &mut jumps[21 * count..][..21],
+        );
+        count += 1;
+    }
+    jumps[21 * count..].fill(0);
+    count as u32
+}
+
+/// A jump entry's depth, and its ancestors 1, 2, 4, .. above, each by a ladder from the one before.
+fn lay_record(v: u32, depth: u32, ladpos: &[u32], ladders: &[u32], record: &mut [u32]) {
+    record.fill(0);
+    record[0] = depth;
+    let mut w = v;
+    let mut step = 1;
+    for e in 0..20 {
+        if 1 << e > depth {
+            break;
+        }
+        w = ladders[(ladpos[w as usize] - step) as usize];
+        record[1 + e] = w;
+        step = 1 << e;
+    }
+}

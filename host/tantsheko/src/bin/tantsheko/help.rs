@@ -1,0 +1,78 @@
+//! What each command does.
+
+/// Name, arguments, one line, and more.
+pub const COMMANDS: [(&str, &str, &str, &str); 8] = [
+    (
+        "prepare",
+        "LIST TABLE",
+        "prepare the table of a list",
+        "LIST is a text: the parent of entry 0, 1, .. on a line each, with - for the top;
+or `entry,parent` lines in any order, where the first line may be a heading.
+TABLE is written whole or not at all.",
+    ),
+    (
+        "class",
+        "TABLE ENTRY DEPTH [--cells]",
+        "the class of an entry at a depth",
+        "The class is the entry's ancestor at that depth; the top has depth 0.
+With --cells a second line lists the cells of the table that were read.",
+    ),
+    (
+        "climb",
+        "TABLE ENTRY COUNT [--cells]",
+        "the entry so many climbs above another",
+        "With --cells a second line lists the cells of the table that were read.",
+    ),
+    (
+        "above",
+        "TABLE UPPER LOWER [--cells]",
+        "whether an entry is at or above another: yes or no",
+        "With --cells a second line lists the cells of the table that were read.",
+    ),
+    (
+        "branch",
+        "TABLE UPPER LOWER [--cells]",
+        "the child of an entry on the way to another",
+        "With --cells a second line lists the cells of the table that were read.",
+    ),
+    (
+        "batch",
+        "TABLE < QUESTIONS > ANSWERS",
+        "answer a stream of questions",
+        "A question is a line: `entry,depth` for a class, or one of `class,entry,depth`,
+`climb,entry,count`, `rating,entry,level`, `above,upper,lower`, `branch,upper,lower`.
+Each answer is the question with `,refusal,result,cells` behind it: refusal is 0 if
+there is a result, else the result is -; cells is how many cells were read.
+A line of another form ends the stream, after the answers to the lines before it.",
+    ),
+    (
+        "pricelist",
+        "TABLE LEVEL..",
+        "the class of each entry at each rating level, as CSV",
+        "A row for each entry: its number, then its class at each level, or - where the
+entry is less deep than the level.",
+    ),
+    (
+        "check",
+        "TABLE LIST",
+        "prepare a list again and compare",
+        "Says whether TABLE is the table of LIST, word for word.",
+    ),
+];
+
+/// The help of a command, or of all.
+pub fn of(command: &str) -> String {
+    if let Some((name, args, line, more)) = COMMANDS.iter().find(|c| c.0 == command) {
+        return format!(
+            "tantsheko {name} {args}\n\n{}{}.\n{more}\n",
+            line[..1].to_uppercase(),
+            &line[1..]
+        );
+    }
+    let mut text = String::from("tantsheko COMMAND ..\n\n");
+    for (name, args, line, _) in COMMANDS {
+        text.push_str(&format!("  {:42} {line}\n", format!("{name} {args}")));
+    }
+    text.push_str("\n`tantsheko COMMAND --help` says more. Status: 0 done, 1 refused or a fault, 2 a wrong call.\n");
+    text
+}

@@ -1,0 +1,112 @@
+//! The answers that turn a call away, by the paper's numbers.
+
+use std::fmt;
+
+/// A refusal with what it names.
+#[derive(Clone, Copy, Debug, PartialEq, Eq)]
+pub enum Refusal {
+    /// 1: the list has no entry, or more than 1,048,576.
+    Count,
+    /// 2: the table is shorter than W words.
+    ShortTable,
+    /// 3: the working space is shorter than 6n words.
+    ShortSpace,
+    /// 4: a word is neither the top mark nor an entry; the lowest such entry.
+    Stray(u32),
+    /// 5: not exactly one top; the second-lowest top, or n.
+    Tops(u32),
+    /// 6: an entry's climb never meets the top; the lowest such entry.
+    Loop(u32),
+    /// 7: an argument is no entry; the first such argument.
+    Unknown(u32),
+    /// 8: deeper than the entry; the entry.
+    TooDeep(u32),
+    /// 9: the table is not one that the question can be answered from.
+    Broken,
+    /// 10: u is not strictly above v; u.
+    NotAbove(u32),
+}
+
+impl Refusal {
+    /// The refusal of a number and what it names; none for 0. A number that the paper does not have is `Broken`: the
+    /// proved code gives none.
+    pub(crate) fn of(number: u32, word: u32) -> Option<Refusal> {
+        match number {
+            0 => None,
+            1 => Some(Refusal::Count),
+            2 => Some(Refusal::ShortTable),
+            3 => Some(Refusal::ShortSpace),
+            4 => Some(Refusal::Stray(word)),
+            5 => Some(Refusal::Tops(word)),
+            6 => Some(Refusal::Loop(word)),
+            7 => Some(Refusal::Unknown(word)),
+            8 => Some(Refusal::TooDeep(word)),
+            10 => Some(Refusal::NotAbove(word)),
+            _ => Some(Refusal::Broken),
+        }
+    }
+
+    /// The paper's number.
+    pub fn number(self) -> u32 {
+        match self {
+            Refusal::Count => 1,
+            Refusal::ShortTable => 2,
+            Refusal::ShortSpace => 3,
+            Refusal::Stray(_) => 4,
+            Refusal::Tops(_) => 5,
+            Refusal::Loop(_) => 6,
+            Refusal::Unknown(_) => 7,
+            Refusal::TooDeep(_) => 8,
+            Refusal::Broken => 9,
+            Refusal::NotAbove(_) => 10,
+        }
+    }
+
+    /// The paper's word.
+    pub fn word(self) -> &'static str {
+        match self {
+            Refusal::Count => "count",
+            Refusal::ShortTable => "short table",
+            Refusal::ShortSpace => "short space",
+            Refusal::Stray(_) => "stray",
+            Refusal::Tops(_) => "tops",
+            Refusal::Loop(_) => "loop",
+            Refusal::Unknown(_) => "unknown",
+            Refusal::TooDeep(_) => "too deep",
+            Refusal::Broken => "broken",
+            Refusal::NotAbove(_) => "not above",
+        }
+    }
+
+    /// What it names.
+    pub fn names(self) -> u32 {
+        match self {
+            Refusal::Stray(x)
+            | Refusal::Tops(x)
+            | Refusal::Loop(x)
+            | Refusal::Unknown(x)
+            | Refusal::TooDeep(x)
+            | Refusal::NotAbove(x) => x,
+            Refusal::Count | Refusal::ShortTable | Refusal::ShortSpace | Refusal::Broken => 0,
+        }
+    }
+}
+
+impl fmt::Display for Refusal {
+    fn fmt(&self, f: &mut fmt::Formatter<'_>) -> fmt::Result {
+        match *self {
+            Refusal::Count => write!(f, "a list has 1 to 1048576 entries"),
+            Refusal::ShortTable => write!(f, "the table is too short for the list"),
+            Refusal::ShortSpace => write!(f, "the working space is too short for the list"),
+            Refusal::Stray(v) => write!(f, "entry {v} names a parent that is not an entry"),
+            Refusal::Tops(v) => write!(f, "a list has exactly one top; see entry {v}"),
+            Refusal::Loop(v) => write!(f, "entry {v} never reaches the top"),
+            Refusal::Unknown(v) => write!(f, "{v} is not an entry of the table"),
+            Refusal::TooDeep(v) => write!(f, "entry {v} is less deep than that"),
+            Refusal::Broken => write!(f, "the table is damaged: prepare it again"),
+            Refusal::NotAbove(u) => write!(f, "entry {u} is not above the other entry"),
+        }
+    }
+}
+
+impl std::error::Error for Refusal {}

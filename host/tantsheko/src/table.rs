@@ -1,0 +1,155 @@
+//! A prepared table and the five questions.
+
+use crate::ffi;
+use crate::refusal::Refusal;
+use std::mem::MaybeUninit;
+
+/// The most entries of a list.
+pub const MOST_ENTRIES: usize = 1_048_576;
+
+/// The word of the top in a parent list.
+pub const TOP: u32 = u32::MAX;
+
+/// W, the words of a table for n entries.
+pub fn table_words(n: u32) -> u64 {
+    // SAFETY: numbers in, a number out.
+    unsafe { ffi::tantsheko_table_words(n) }
+}
+
+/// The words of the working space for n entries.
+pub fn space_words(n: u32) -> u64 {
+    // SAFETY: numbers in, a number out.
+    unsafe { ffi::tantsheko_space_words(n) }
+}
+
+/// What a question gives: its result or a refusal, and the cells that it read.
+#[derive(Clone, Copy, Debug, PartialEq, Eq)]
+#[repr(C)]
+pub struct Answer {
+    number: u32,
+    word: u32,
+    cells: [u32; 15],
+    count: u32,
+}
+
+impl Answer {
+    /// The result, or why there is none.
+    pub fn result(&self) -> Result<u32, Refusal> {
+        match Refusal::of(self.number, self.word) {
+            None => Ok(self.word),
+            Some(refusal) => Err(refusal),
+        }
+    }
+
+    /// 0, or the refusal's number.
+    pub fn number(&self) -> u32 {
+        self.number
+    }
+
+    /// The cells read, in the order read.
+    pub fn cells(&self) -> &[u32] {
+        &self.cells[..self.count.min(15) as usize]
+    }
+
+    /// All fifteen places: those past the count are 0.
+    pub fn places(&self) -> &[u32; 15] {
+        &self.cells
+    }
+}
+
+/// A question of the proved library: table, two arguments, and where the eighteen words of its answer go.
+type Question = unsafe extern "C" fn(*const u32, usize, u32, u32, *mut u32);
+
+/// A table of any contents. On one that was not prepared a question may give `Broken`, never anything worse.
+#[derive(Clone, Debug, PartialEq, Eq)]
+pub struct Table {
+    words: Vec<u32>,
+}
+
+impl Table {
+    /// Prepares the table of a parent list: a word for each entry, its parent's number or `TOP`.
+    pub fn prepare(parents: &[u32]) -> Result<Table, Refusal> {
+        // A list of another length is refused before a buffer is looked at.
+        let fits = parents.len() <= MOST_ENTRIES;
+        let n = if fits { parents.len() as u32 } else { 0 };
+        let mut words = vec![0; table_words(n) as usize];
+        let mut space = vec![0; space_words(n) as usize];
+        match prepare_into(parents, &mut words, &mut space) {
+            Ok(_) => Ok(Table { words }),
+            Err(refusal) => Err(refusal),
+        }
+    }
+
+    /// A table from words that were stored.
+    pub fn from_words(words: Vec<u32>) -> Table {
+        Table { words }
+    }
+
+    /// The words of the table.
+    pub fn words(&self) -> &[u32] {
+        &self.words
+    }
+
+    /// How many entries the table says it has.
+    pub fn entries(&self) -> u32 {
+        self.words.first().copied().unwrap_or(0)
+    }
+
+    fn ask(&self, question: Question, a: u32, b: u32) -> Answer {
+        let mut answer = MaybeUninit::<Answer>::uninit();
+        // SAFETY: the pointer and the length are the slice's, and the answer is eighteen words, each of which the
+        // question writes.
+        unsafe {
+            let out = answer.as_mut_ptr().cast::<u32>();
+            question(self.words.as_ptr(), self.words.len(), a, b, out);
+            answer.assume_init()
+        }
+    }
+
+    /// The class of v at depth d.
+    pub fn level(&self, v: u32, d: u32) -> Answer {
+        self.ask(ffi::tantsheko_level, v, d)
+    }
+
+    /// The entry k above v.
+    pub fn climb(&self, v: u32, k: u32) -> Answer {
+        self.ask(ffi::tantsheko_climb, v, k)
+    }
+
+    /// The class of v at rating level d.
+    pub fn rating(&self, v: u32, d: u32) -> Answer {
+        self.ask(ffi::tantsheko_rating, v, d)
+    }
+
+    /// Whether u is at or above v: 1 or 0.
+    pub fn ancestry(&self, u: u32, v: u32) -> Answer {
+        self.ask(ffi::tantsheko_ancestry, u, v)
+    }
+
+    /// The child of u on the way to v.
+    pub fn branch(&self, u: u32, v: u32) -> Answer {
+        self.ask(ffi::tantsheko_branch, u, v)
+    }
+}
+
+/// Prepares into buffers of the caller's, of any lengths: W on acceptance. For whoever keeps the buffers; the tests
+/// compare every word with it.
+pub fn prepare_into(parents: &[u32], table: &mut [u32], space: &mut [u32]) -> Result<u32, Refusal> {
+    let mut reply = [0u32; 2];
+    // SAFETY: each pointer and length are a slice's, no two overlap, and the reply has two words.
+    unsafe {
+        ffi::tantsheko_prepare(
+            parents.as_ptr(),
+            parents.len(),
+            table.as_mut_ptr(),
+            table.len(),
+            space.as_mut_ptr(),
+            space.len(),
+            reply.as_mut_ptr(),
+        );
+    }
+    match Refusal::of(reply[0], reply[1]) {
+        None => Ok(reply[1]),
+        Some(refusal) => Err(refusal),
+    }
+}

@@ -1,0 +1,249 @@
+//! The proved library beside the same work by hand: every word and every answer, on every list that is tried.
+
+use reference::Answer;
+use tantsheko::{prepare_into, Refusal, Table};
+
+const TOP: u32 = u32::MAX;
+
+/// The next number of a fixed sequence (splitmix64).
+fn next(seed: &mut u64) -> u64 {
+    *seed = seed.wrapping_add(0x9E37_79B9_7F4A_7C15);
+    let mut z = *seed;
+    z = (z ^ (z >> 30)).wrapping_mul(0xBF58_476D_1CE4_E5B9);
+    z = (z ^ (z >> 27)).wrapping_mul(0x94D0_49BB_1331_11EB);
+    z ^ (z >> 31)
+}
+
+fn below(seed: &mut u64, n: usize) -> u32 {
+    (next(seed) % n as u64) as u32
+}
+
+/// A tree of a kind, with its numbers permuted where asked.
+fn tree(kind: usize, n: usize, seed: &mut u64, permuted: bool) -> Vec<u32> {
+    let parents: Vec<u32> = (0..n)
+        .map(|i| match (i, kind % 7) {
+            (0, _) => TOP,
+            (_, 0) => i as u32 - 1,
+            (_, 1) => 0,
+            (_, 2) => below(seed, i),
+            (_, 3) => (i - 1 - (i + 1) % 2) as u32,
+            (_, 4) => (i as u32 - 1) / 2,
+            (_, 5) => (i as u32 - 1).min(n as u32 / 2),
+            _ => i as u32 - 1 - below(seed, i.min(6)),
+        })
+        .collect();
+    if !permuted {
+        return parents;
+    }
+    let mut name: Vec<u32> = (0..n as u32).collect();
+    for i in (1..n).rev() {
+        name.swap(i, below(seed, i + 1) as usize);
+    }
+    let mut list = vec![0; n];
+    for (i, &p) in parents.iter().enumerate() {
+        list[name[i] as usize] = if p == TOP { TOP } else { name[p as usize] };
+    }
+    list
+}
+
+/// The number and the word of preparing's answer.
+fn reply(r: Result<u32, Refusal>) -> (u32, u32) {
+    match r {
+        Ok(w) => (0, w),
+        Err(refusal) => (refusal.number(), refusal.names()),
+    }
+}
+
+/// Prepares by both on buffers with the same rubbish, and compares all words. Hands back the table if it was accepted.
+fn same_table(parents: &[u32], table: usize, space: usize) -> Option<Vec<u32>> {
+    let rubbish =
+        |n: usize, k: u32| -> Vec<u32> { (0..n as u32).map(|i| 3_000_000_000 + k + i).collect() };
+    let (mut ta, mut sa) = (rubbish(table, 1), rubbish(space, 2));
+    let (mut tb, mut sb) = (ta.clone(), sa.clone());
+    let a = reply(prepare_into(parents, &mut ta, &mut sa));
+    let b = reference::prepare(parents, &mut tb, &mut sb);
+    assert_eq!(a, b, "answer for {:?}", &parents[..parents.len().min(20)]);
+    assert!(ta == tb, "table of {:?}", &parents[..parents.len().min(20)]);
+    assert!(sa == sb, "space of {:?}", &parents[..parents.len().min(20)]);
+    (a.0 == 0).then_some(ta)
+}
+
+fn whole(parents: &[u32]) -> Option<Vec<u32>> {
+    let n = parents.len();
+    same_table(
+        parents,
+        reference::table_words(n) + 2,
+        reference::space_words(n) + 2,
+    )
+}
+
+fn same(ours: tantsheko::Answer, theirs: Answer) {
+    let (number, word) = match ours.result() {
+        Ok(word) => (0, word),
+        Err(refusal) => (refusal.number(), refusal.names()),
+    };
+    assert_eq!((number, word), (theirs.number, theirs.word));
+    assert_eq!(ours.cells().len() as u32, theirs.count);
+    assert_eq!(ours.places(), &theirs.cells);
+}
+
+/// All five questions with two arguments.
+fn same_answers(table: &Table, a: u32, b: u32) {
+    let words = table.words();
+    same(table.level(a, b), reference::level(words, a, b));
+    same(table.climb(a, b), reference::climb(words, a, b));
+    same(table.rating(a, b), reference::rating(words, a, b));
+    same(table.ancestry(a, b), reference::ancestry(words, a, b));
+    same(table.branch(a, b), reference::branch(words, a, b));
+}
+
+/// The class by climbing from parent to parent.
+fn climbed(parents: &[u32], v: u32, d: u32) -> Result<u32, Refusal> {
+    if v as usize >= parents.len() {
+        return Err(Refusal::Unknown(v));
+    }
+    let mut climb = vec![v];
+    while parents[*climb.last().unwrap() as usize] != TOP {
+        climb.push(parents[*climb.last().unwrap() as usize]);
+    }
+    climb.reverse();
+    climb.get(d as usize).copied().ok_or(Refusal::TooDeep(v))
+}
+
+#[test]
+fn every_small_list() {
+    for n in 1..=6usize {
+        // Each word is an entry, the top mark, or stray.
+        let choices: Vec<u32> = (0..n as u32).chain([TOP, n as u32]).collect();
+        for code in 0..choices.len().pow(n as u32) {
+            let mut rest = code;
+            let parents: Vec<u32> = (0..n)
+                .map(|_| {
+                    let p = choices[rest % choices.len()];
+                    rest /= choices.len();
+                    p
+                })
+                .collect();
+            let Some(words) = whole(&parents) else {
+                continue;
+            };
+            let table = Table::from_words(words);
+            for v in 0..=n as u32 {
+                for d in 0..=n as u32 {
+                    same_answers(&table, v, d);
+                    assert_eq!(table.level(v, d).result(), climbed(&parents, v, d));
+                }
+            }
+        }
+    }
+}
+
+#[test]
+fn short_buffers() {
+    let mut seed = 11;
+    for n in [1usize, 5, 6, 7, 30] {
+        let parents = tree(2, n, &mut seed, true);
+        let (w, s) = (reference::table_words(n), reference::space_words(n));
+        for (table, space) in [
+            (0, 0),
+            (w - 1, s),
+            (w, s - 1),
+            (w - 1, s - 1),
+            (w, s),
+            (w + 3, s + 3),
+        ] {
+            same_table(&parents, table, space);
+        }
+    }
+    same_table(&[], 100, 100);
+    let over = vec![TOP; 1_048_577];
+    same_table(&over, 10, 10);
+}
+
+#[test]
+fn random_trees() {
+    let mut seed = 1;
+    for k in 0..4200usize {
+        let n = 1 + below(&mut seed, if k % 10 == 0 { 2000 } else { 200 }) as usize;
+        let parents = tree(k, n, &mut seed, k % 3 > 0);
+        let table = Table::from_words(whole(&parents).expect("a tree"));
+        for _ in 0..60 {
+            let v = below(&mut seed, n);
+            let depth = table.words()[4 + v as usize] as usize;
+            let d = below(&mut seed, depth + 2);
+            same_answers(&table, v, d);
+            assert_eq!(table.level(v, d).result(), climbed(&parents, v, d));
+            same_answers(&table, v, below(&mut seed, n + 1));
+        }
+    }
+}
+
+#[test]
+fn damaged_lists() {
+    let mut seed = 2;
+    for k in 0..4000usize {
+        let n = 2 + below(&mut seed, 60) as usize;
+        let mut parents = tree(k, n, &mut seed, true);
+        for _ in 0..1 + below(&mut seed, 3) {
+            let at = below(&mut seed, n) as usize;
+            parents[at] = match below(&mut seed, 5) {
+                0 => TOP,
+                1 => n as u32 + below(&mut seed, 3),
+                2 => TOP - 1,
+                3 => at as u32,
+                _ => below(&mut seed, n),
+            };
+        }
+        whole(&parents);
+    }
+}
+
+#[test]
+fn damaged_tables() {
+    let mut seed = 3;
+    for k in 0..300usize {
+        let n = 1 + below(&mut seed, 60) as usize;
+        let parents = tree(k, n, &mut seed, true);
+        let words = whole(&parents).expect("a tree");
+        for _ in 0..60 {
+            let mut bad = words.clone();
+            for _ in 0..1 + below(&mut seed, 2) {
+                let cell = below(&mut seed, bad.len()) as usize;
+                bad[cell] = match below(&mut seed, 8) {
+                    0 => 0,
+                    1 => bad[cell].wrapping_add(1),
+                    2 => bad[cell].wrapping_sub(1),
+                    3 => TOP,
+                    4 => 1 << 31,
+                    5 => n as u32,
+                    6 => bad[below(&mut seed, bad.len()) as usize],
+                    _ => next(&mut seed) as u32,
+                };
+            }
+            let table = Table::from_words(bad);
+            for _ in 0..40 {
+                let (a, b) = (below(&mut seed, n + 1), below(&mut seed, n + 1));
+                same_answers(&table, a, b);
+            }
+        }
+        for length in [0, 1, 3, 4, words.len() - 3] {
+            same_answers(&Table::from_words(words[..length].to_vec()), 0, 0);
+        }
+    }
+}
+
+#[test]
+fn the_largest_trees() {
+    let mut seed = 4;
+    let n = 1 << 20;
+    for kind in 0..7 {
+        let parents = tree(kind, n, &mut seed, kind % 2 == 0);
+        let table = Table::from_words(whole(&parents).expect("a tree"));
+        for _ in 0..20_000 {
+            let v = below(&mut seed, n);
+            let depth = table.words()[4 + v as usize] as usize;
+            same_answers(&table, v, below(&mut seed, depth + 2));
+            same_answers(&table, v, below(&mut seed, n));
+        }
+    }
+}

@@ -1,0 +1,79 @@
+/* The proved class tree for C. Link with libexports.a, which `rt staticlib exports` writes to target/staticlib.
+ *
+ * A list is an array of words, one for each entry: its parent's number, or TANTSHEKO_TOP. Arrays that one call takes
+ * must not overlap. No other precondition is left to the caller: lists, tables and numbers may hold anything, and bad
+ * input gets its numbered refusal. Nothing is allocated, and no function keeps a pointer. */
+#ifndef TANTSHEKO_H
+#define TANTSHEKO_H
+
+#include <stddef.h>
+#include <stdint.h>
+
+#ifdef __cplusplus
+extern "C" {
+#endif
+
+/* The word of the top in a list. */
+#define TANTSHEKO_TOP UINT32_C(4294967295)
+
+/* Numbers of answers, with what each names: 0 for a result, else why there is none. */
+enum tantsheko_number {
+    TANTSHEKO_OK = 0,          /* preparing: W; a question: its result */
+    TANTSHEKO_COUNT = 1,       /* the list has no entry, or more than 1,048,576: 0 */
+    TANTSHEKO_SHORT_TABLE = 2, /* the table is under W words: 0 */
+    TANTSHEKO_SHORT_SPACE = 3, /* the working space is under 6n words: 0 */
+    TANTSHEKO_STRAY = 4,       /* a word is neither the top's nor an entry: the lowest such entry */
+    TANTSHEKO_TOPS = 5,        /* not exactly one top: the second-lowest top, or n */
+    TANTSHEKO_LOOP = 6,        /* a climb never meets the top: the lowest such entry */
+    TANTSHEKO_UNKNOWN = 7,     /* an argument is no entry: the first such argument */
+    TANTSHEKO_TOO_DEEP = 8,    /* deeper than the entry: the entry */
+    TANTSHEKO_BROKEN = 9,      /* the table is not a prepared one: 0 */
+    TANTSHEKO_NOT_ABOVE = 10   /* u is not strictly above v: u */
+};
+
+/* What preparing answers. */
+typedef struct {
+    uint32_t number;
+    uint32_t word;
+} tantsheko_reply;
+
+/* What a question answers: its number, the result or what the refusal names, the cells read in the order read (the
+ * places past the count are 0), and how many they are. */
+typedef struct {
+    uint32_t number;
+    uint32_t word;
+    uint32_t cells[15];
+    uint32_t count;
+} tantsheko_answer;
+
+/* W: how many words the table of a list of n entries has. */
+uint64_t tantsheko_table_words(uint32_t n);
+
+/* How many words of working space preparing needs for n entries. */
+uint64_t tantsheko_space_words(uint32_t n);
+
+/* Prepares the table of a list. On acceptance the first W words of the table are written; a refusal leaves it as it was.
+ * The first 6n words of the space come back as zero, except after 1, 2 and 3, which leave them as they were. */
+void tantsheko_prepare(const uint32_t *parents, size_t parents_len, uint32_t *table, size_t table_len, uint32_t *space,
+                       size_t space_len, tantsheko_reply *reply);
+
+/* The class of entry v at depth d: its ancestor there. Reads at most ten cells. */
+void tantsheko_level(const uint32_t *table, size_t table_len, uint32_t v, uint32_t d, tantsheko_answer *answer);
+
+/* The entry k climbs above v. Reads at most ten cells. */
+void tantsheko_climb(const uint32_t *table, size_t table_len, uint32_t v, uint32_t k, tantsheko_answer *answer);
+
+/* The class of entry v at rating level d. Reads at most ten cells. */
+void tantsheko_rating(const uint32_t *table, size_t table_len, uint32_t v, uint32_t d, tantsheko_answer *answer);
+
+/* Whether u is at or above v: the result is 1 or 0. */
+void tantsheko_ancestry(const uint32_t *table, size_t table_len, uint32_t u, uint32_t v, tantsheko_answer *answer);
+
+/* The child of u on the way to v. Reads at most fifteen cells. */
+void tantsheko_branch(const uint32_t *table, size_t table_len, uint32_t u, uint32_t v, tantsheko_answer *answer);
+
+#ifdef __cplusplus
+}
+#endif
+
+#endif
