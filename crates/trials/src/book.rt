@@ -1,7 +1,7 @@
 // What is known of each entry of a list of up to 512, by number, and lists of entries. One slice holds a part of 512 words for each.
-use crate::words::add;
-use crate::words::get;
-use crate::words::put;
+use samples::words::add;
+use samples::words::get;
+use samples::words::put;
 
 pub const DEPTH: usize = 0;
 

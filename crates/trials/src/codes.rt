@@ -4,8 +4,8 @@ use crate::book::ORDER;
 use crate::book::PRE;
 use crate::book::SIZE;
 use crate::book::read;
-use crate::words::add;
-use crate::words::less;
+use samples::words::add;
+use samples::words::less;
 
 // A string with so many ups behind it.
 fn ups(code: usize, count: usize) -> usize {

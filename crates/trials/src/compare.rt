@@ -1,12 +1,12 @@
 // One call of preparing, against what it is to answer and to leave.
 use crate::laid::lay;
 use crate::verdict::judge;
-use crate::words::add;
 use crate::words::clear;
 use crate::words::fill;
-use crate::words::get;
-use crate::words::times;
-use crate::words::wide;
+use samples::words::add;
+use samples::words::get;
+use samples::words::times;
+use samples::words::wide;
 
 struct Reply {
     number: usize,

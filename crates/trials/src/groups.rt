@@ -8,14 +8,14 @@ use crate::book::SIZE;
 use crate::book::read;
 use crate::book::write;
 use crate::codes::shape;
-use crate::plain::above;
-use crate::words::TOP;
-use crate::words::add;
-use crate::words::get;
-use crate::words::less;
-use crate::words::put;
 use crate::words::start;
-use crate::words::times;
+use samples::climbing::above;
+use samples::words::TOP;
+use samples::words::add;
+use samples::words::get;
+use samples::words::less;
+use samples::words::put;
+use samples::words::times;
 
 fn micro(book: &[u32], v: usize) -> bool {
     read(book, SIZE, v) <= 5

@@ -12,11 +12,11 @@ use crate::groups::list_roots;
 use crate::paths::count_paths;
 use crate::paths::ladders;
 use crate::plain::keep;
-use crate::words::add;
 use crate::words::clear;
-use crate::words::put;
 use crate::words::start;
 use crate::words::table_words;
+use samples::words::add;
+use samples::words::put;
 
 // A part of the book into a section of n cells.
 fn section(book: &[u32], part: usize, n: usize, at: usize, want: &mut [u32]) {

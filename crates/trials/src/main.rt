@@ -1,26 +1,21 @@
 // Tries preparing on lists of many kinds: answer, table and space against a table laid by plain definitions.
 mod book;
-mod cases;
 mod codes;
-mod codings;
 mod compare;
-mod damage;
 mod groups;
 mod laid;
-mod lists;
 mod paths;
 mod plain;
 mod printed;
-mod seeds;
 mod verdict;
 mod words;
 
-use crate::cases::LINES;
-use crate::cases::case_at;
-use crate::cases::count_at;
 use crate::compare::trial;
 use crate::printed::say;
-use crate::words::add;
+use samples::cases::LINES;
+use samples::cases::case_at;
+use samples::cases::count_at;
+use samples::words::add;
 
 // The differences in so many trials of a line.
 fn line_differences(

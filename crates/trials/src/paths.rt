@@ -4,14 +4,14 @@ use crate::book::HEIGHT;
 use crate::book::LONG;
 use crate::book::ORDER;
 use crate::book::read;
-use crate::plain::above;
-use crate::words::TOP;
-use crate::words::add;
-use crate::words::get;
-use crate::words::least;
-use crate::words::less;
-use crate::words::put;
 use crate::words::start;
+use samples::climbing::above;
+use samples::words::TOP;
+use samples::words::add;
+use samples::words::get;
+use samples::words::least;
+use samples::words::less;
+use samples::words::put;
 
 // Whether a long path starts at v.
 fn path_top(parents: &[u32], book: &[u32], v: usize) -> bool {

@@ -8,34 +8,10 @@ use crate::book::PRE;
 use crate::book::SIZE;
 use crate::book::read;
 use crate::book::write;
-use crate::words::TOP;
-use crate::words::add;
-use crate::words::get;
-
-// The climbs from v to the top, or n where v never meets it.
-pub fn climbs(parents: &[u32], n: usize, v: usize) -> usize {
-    let mut at = v;
-    let mut k = 0;
-    while k < n {
-        at = get(parents, at);
-        if at == TOP {
-            return k;
-        }
-        k += 1;
-    }
-    n
-}
-
-// The entry k above v.
-pub fn above(parents: &[u32], v: usize, k: usize) -> usize {
-    let mut at = v;
-    let mut i = 0;
-    while i < k {
-        at = get(parents, at);
-        i += 1;
-    }
-    at
-}
+use samples::climbing::climbs;
+use samples::words::TOP;
+use samples::words::add;
+use samples::words::get;
 
 // Counts v in the entry `at`, k above it.
 fn count_in(book: &mut [u32], at: usize, k: usize) {

@@ -1,10 +1,10 @@
 // What preparing is to answer.
-use crate::plain::climbs;
-use crate::words::TOP;
-use crate::words::add;
-use crate::words::get;
 use crate::words::table_words;
-use crate::words::times;
+use samples::climbing::climbs;
+use samples::words::TOP;
+use samples::words::add;
+use samples::words::get;
+use samples::words::times;
 
 pub struct Verdict {
     pub number: usize,

@@ -1,0 +1,23 @@
+// A line of the output: a name, the number of questions and the number of differences.
+use crate::tally::Tally;
+use samples::fields::field;
+use samples::words::less;
+
+fn name(line: usize) {
+    if line < 8 {
+        let names = b"chain,star,random,caterpillar,binary,broom,deep,grown,";
+        io::write_all(1, field(names, line));
+    } else {
+        let names =
+            b"damaged chain,damaged star,damaged random,damaged caterpillar,damaged binary,damaged broom,damaged deep,total,";
+        io::write_all(1, field(names, less(line, 8)));
+    }
+}
+
+pub(crate) fn say(line: usize, tally: Tally) {
+    name(line);
+    io::print_decimal(1, tally.asked as u64);
+    io::write_all(1, b",");
+    io::print_decimal(1, tally.differences as u64);
+    io::write_all(1, b"\n");
+}
