@@ -6,5 +6,5 @@ pub mod Rising
 pub mod Gathering
 pub mod Leaping
 pub mod Doubling
-pub mod Sizing
-pub mod Towering
+pub mod Nearing
+pub mod Hanging

@@ -38,16 +38,16 @@ abovePosition ps v = Option·elim (parent ps v) topMark (position ps)
 unfoldable pub longPosition : List ℕ → ℕ → ℕ
 longPosition ps v = Option·elim (longChild ps v) topMark (position ps)
 
--- DEPTH, and SIZE, of a list that forms one tree
+-- DEPTH, and ABOVE, of a list that forms one tree
 pub record Depths (ps deep : List ℕ) : Type 0 where
   pub few : length ps ≤ mostEntries
   pub tree : Tree ps
   pub depths : deep ≡ map (depth ps) (order ps)
 
-pub record Sizes (ps sizes : List ℕ) : Type 0 where
+pub record Aboves (ps above : List ℕ) : Type 0 where
   pub few : length ps ≤ mostEntries
   pub tree : Tree ps
-  pub sizes-are : sizes ≡ map (size ps) (order ps)
+  pub aboves : above ≡ map (abovePosition ps) (order ps)
 
 -- HEIGHT and LONG, one behind the other
 pub record Tall (ps cells : List ℕ) : Type 0 where

@@ -19,6 +19,7 @@ use Rattle.table.specs.Table.{header, entrySections, laidSections, ladderCells,
 use Rattle.climbs.proofs.Room.{ladders-fit}
 use Rattle.climbs.proofs.Groups.{groups-few}
 use Rattle.climbs.proofs.Words.{groups-length}
+use Rattle.fill.specs.Arrays.{abovePosition}
 use Rattle.fill.proofs.Laddering.{array-length}
 use Rattle.layout.specs.Stages.{Familied, Laddered, Sectioned}
 
@@ -157,11 +158,11 @@ module _ (ps t : List ℕ) (long : length t ≡ tableWords (length ps)) (few : l
         groups = put-view t₂ (4 + n ps * 8) G b₂ (n ps * 3) g;
       }
 
-  -- LADPOS and LADDERS beside them, with the sizes in the cells of DEPTH
-  pub laddered : Familied ps t → let t₃ = put (put (put t 4 (map (size ps) (order ps))) (4 + n ps * 2) L) (4 + n ps * 6) R in Familied ps t₃ × Laddered ps t₃
+  -- LADPOS and LADDERS beside them, with the positions above in the cells of DEPTH
+  pub laddered : Familied ps t → let t₃ = put (put (put t 4 (map (abovePosition ps) (order ps))) (4 + n ps * 2) L) (4 + n ps * 6) R in Familied ps t₃ × Laddered ps t₃
   laddered f =
-      let X = map (size ps) (order ps) in
-      let x : length X ≡ n ps = array-length ps few tree (size ps) X refl in
+      let X = map (abovePosition ps) (order ps) in
+      let x : length X ≡ n ps = array-length ps few tree (abovePosition ps) X refl in
       let l = each-length (n ps) 0 (ladPos ps) in
       let r = rungs-wide in
       let t₁ = put t 4 X in

@@ -6,11 +6,10 @@ use native.Mathlib.Omega.{arith}
 use borrow.Rule.Slice.PartMut.{midOf, putMid}
 use lib.ListN.{length}
 use Rattle.base.specs.Lists.{view, put}
-use Rattle.base.specs.Limits.{tableWords}
-use Rattle.base.proofs.Puts.{lent-back, put-length, put-view, put-before, put-inside}
+use Rattle.base.proofs.Puts.{lent-back, put-view, put-behind, put-inside}
 use Rattle.tree.specs.Parents.{depth}
 use Rattle.tree.specs.Forest.{size, order}
-use Rattle.fill.specs.Arrays.{abovePosition, Depths, Sizes, Tall}
+use Rattle.fill.specs.Arrays.{abovePosition, Depths, Aboves, Tall}
 use Rattle.fill.proofs.Laddering.{array-length}
 use Rattle.layout.specs.Stages.{Walked, Measured, Raised}
 use Rattle.layout.proofs.Staging.{lent, walked-put, measured-put}
@@ -33,27 +32,35 @@ module _ (ps space : List ℕ) (w : Walked ps space) where
     pub depths-of : table₁ ≡ put table 4 (view n n space) → Depths ps (midOf 4 (4 + n - 4) table₁)
     depths-of e = record { few = w .few; tree = w .tree; depths = scratch (depth ps) n (w .depths) table table₁ room e }
 
-    pub sizes-of : view (n * 2) n space ≡ map (size ps) (order ps) → table₁ ≡ put table 4 (view (n * 2) n space) → Sizes ps (midOf 4 (4 + n - 4) table₁)
-    sizes-of is e = record { few = w .few; tree = w .tree; sizes-are = scratch (size ps) (n * 2) is table table₁ room e }
+    pub aboves-of : view (n * 3) n space ≡ map (abovePosition ps) (order ps) → table₁ ≡ put table 4 (view (n * 3) n space) → Aboves ps (midOf 4 (4 + n - 4) table₁)
+    aboves-of is e = record { few = w .few; tree = w .tree; aboves = scratch (abovePosition ps) (n * 3) is table table₁ room e }
 
-  -- regions 2 and 3
-  pub measured : (xs ys : List ℕ) → xs ≡ map (size ps) (order ps) → ys ≡ map (abovePosition ps) (order ps) → Measured ps (putMid (n * 3) (n * 4 - n * 3) (putMid (n * 2) (n * 3 - n * 2) space xs) ys)
-  measured xs ys e f =
-      let s = map (size ps) (order ps) in
-      let u = map (abovePosition ps) (order ps) in
-      let ls : length s ≡ n = array-length ps (w .few) (w .tree) (size ps) s refl in
-      let lu : length u ≡ n = array-length ps (w .few) (w .tree) (abovePosition ps) u refl in
-      let one = put space (n * 2) s in
-      let room : n * 2 + length s ≤ length space = omega (arith, w .room) in
-      let long = put-length space (n * 2) s room in
-      let room-2 : n * 3 + length u ≤ length one = omega (arith, w .room) in
-      let back : putMid (n * 3) (n * 4 - n * 3) (putMid (n * 2) (n * 3 - n * 2) space xs) ys ≡ put one (n * 3) u
-      = lent-back (n * 3) (n * 4) _ ys u f (omega arith) ∙ ap (λ l. put l (n * 3) u) (lent-back (n * 2) (n * 3) space xs s e (omega arith)) in
-      rw back (record {
-        walked = walked-put ps one (n * 3) u (omega arith) (omega arith) (walked-put ps space (n * 2) s (omega arith) (omega arith) w);
-        sizes = put-before one (n * 3) u room-2 (n * 2) n (omega arith) ∙ put-view space (n * 2) s room n ls;
-        aboves = put-view one (n * 3) u room-2 n lu;
-      })
+  -- region 3, and region 2 after it
+  module _ (ys : List ℕ) (f : ys ≡ map (abovePosition ps) (order ps)) where
+    wide : length ys ≡ n
+    wide = array-length ps (w .few) (w .tree) (abovePosition ps) ys f
+
+    over-is : putMid (n * 3) (n * 4 - n * 3) space ys ≡ put space (n * 3) ys
+    over-is = lent-back (n * 3) (n * 4) space ys ys refl (omega (arith, wide))
+
+    pub over-walked : Walked ps (putMid (n * 3) (n * 4 - n * 3) space ys)
+    over-walked = rw over-is (walked-put ps space (n * 3) ys (omega arith) (omega (arith, wide)) w)
+
+    pub over-aboves : view (n * 3) n (putMid (n * 3) (n * 4 - n * 3) space ys) ≡ map (abovePosition ps) (order ps)
+    over-aboves = rw over-is (put-view space (n * 3) ys (omega (arith, w .room, wide)) n wide ∙ f)
+
+-- the sizes beside them
+pub measured : (ps space : List ℕ) → Walked ps space → view (length ps * 3) (length ps) space ≡ map (abovePosition ps) (order ps)
+    → (xs : List ℕ) → xs ≡ map (size ps) (order ps) → Measured ps (putMid (length ps * 2) (length ps * 3 - length ps * 2) space xs)
+measured ps space w above xs e =
+    let n = length ps in
+    let wide : length xs ≡ n = array-length ps (w .few) (w .tree) (size ps) xs e in
+    let fits : n * 2 + length xs ≤ length space = omega (arith, w .room) in
+    rw (lent-back (n * 2) (n * 3) space xs xs refl (omega arith)) (record {
+      walked = walked-put ps space (n * 2) xs (omega arith) (omega arith) w;
+      sizes = put-view space (n * 2) xs fits n wide ∙ e;
+      aboves = put-behind space (n * 2) xs fits (n * 3) n (omega arith) ∙ above;
+    })
 
 module _ (ps space : List ℕ) (m : Measured ps space) where
   -- regions 4 and 5

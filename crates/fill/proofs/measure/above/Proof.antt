@@ -7,7 +7,7 @@ use borrow.Author.Needs.{needs}
 use lib.ListN.{length, set, length-set}
 use Rattle.fill.specs.Arrays.{entryAt, abovePosition, Depths}
 use Rattle.fill.proofs.Spreading.{Ran, ran-none, ran-more, ran-map}
-use Rattle.fill.proofs.Sizing.{deeps-length, deeps-some, first-above}
+use Rattle.fill.proofs.Nearing.{deeps-length, deeps-some, first-above}
 use Rattle.fill.proofs.measure.above.Statement.{statement}
 use Rattle.fill.proofs.measure.above.Tie as tie
 

@@ -6,7 +6,7 @@ use native.Mathlib.Omega.{arith}
 use borrow.Author.Needs.{needs}
 use lib.ListN.{getD}
 use Rattle.fill.specs.Arrays.{entryAt, abovePosition, Depths}
-use Rattle.fill.proofs.Sizing.{Nearing, near-start, near-on, near-end}
+use Rattle.fill.proofs.Nearing.{Nearing, near-start, near-on, near-end}
 use Rattle.fill.proofs.measure.higher.Statement.{statement}
 use Rattle.fill.proofs.measure.higher.Tie as tie
 

@@ -1,12 +1,12 @@
 -- `regions::raise` meets its contract. Assumes nothing.
 use mathlib.Core.Path.{_≡_, _∙_}
-use Prim.Native.Nat.{_+_, _*_, _-_, _≤_}
+use Prim.Native.Nat.{_+_, _*_}
 use native.Mathlib.Omega.{arith}
 use borrow.Author.Needs.{needs}
 use borrow.Rule.Slice.PartMut.{mid-len}
 use lib.ListN.{length}
-use Rattle.tree.specs.Forest.{size}
-use Rattle.layout.proofs.Loading.{sizes-of, held, raised}
+use Rattle.fill.specs.Arrays.{abovePosition}
+use Rattle.layout.proofs.Loading.{aboves-of, held, raised}
 use Rattle.layout.proofs.regions.raise.Statement.{statement}
 use Rattle.layout.proofs.regions.raise.Tie as tie
 
@@ -17,7 +17,7 @@ heights-requires c κs =
     let n = length ps in
     let m = s .pre .0 in
     let k = c .before .before .before .before .before .carry in (
-      (ps, sizes-of ps (s .args .space .now) (m .walked) (s .args .table .now) (k .last .1 .1 .0) (omega (arith, s .pre .1)) (m .sizes) (k .ensures)),
+      (ps, aboves-of ps (s .args .space .now) (m .walked) (s .args .table .now) (k .last .1 .1 .0) (omega (arith, s .pre .1)) (m .aboves) (k .ensures)),
       omega (arith, mid-len (n * 4) (n * 6) (s .args .space .now) (omega (arith, m .walked .room)), mid-len 4 (4 + n) (k .last .1 .1 .0) (omega (arith, s .pre .1, k .kept .1 .1 .0))),
     )
 
@@ -31,9 +31,9 @@ returns c =
     let k = c .before .before .before .before .before .before .before .before .carry in
     let h = c .before .before .heights in
     let long : length (h .last .1 .0) ≡ n * 2 = h .kept .1 .0 ∙ mid-len (n * 4) (n * 6) xs (omega (arith, m .walked .room)) ∙ omega arith in
-    let t = h .ensures ps (sizes-of ps xs (m .walked) (s .args .table .now) (k .last .1 .1 .0) (omega (arith, s .pre .1)) (m .sizes) (k .ensures)) in (
+    let t = h .ensures ps (aboves-of ps xs (m .walked) (s .args .table .now) (k .last .1 .1 .0) (omega (arith, s .pre .1)) (m .aboves) (k .ensures)) in (
       raised ps xs m (h .last .1 .0) long t,
-      held ps xs (m .walked) (size ps) (n * 2) (m .sizes) (s .args .table .now) (k .last .1 .1 .0) (omega (arith, s .pre .1)) (k .ensures),
+      held ps xs (m .walked) (abovePosition ps) (n * 3) (m .aboves) (s .args .table .now) (k .last .1 .1 .0) (omega (arith, s .pre .1)) (k .ensures),
     )
 
 pub raise-spec : {M : Type 1} → statement M
