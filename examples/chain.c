@@ -16,8 +16,7 @@ int main(void) {
         return 1;
     }
     for (uint32_t d = 1; d <= 8; d++) {
-        tantsheko_answer a;
-        tantsheko_level(table, WORDS, 7, d, &a);
+        tantsheko_answer a = tantsheko_level(table, WORDS, 7, d);
         printf("7,%u,%u,%u:", (unsigned)d, (unsigned)a.number, (unsigned)a.word);
         for (uint32_t i = 0; i < a.count; i++)
             printf(" %u", (unsigned)a.cells[i]);

@@ -1,2 +1,2 @@
--- How an answer stands in words.
+-- How preparing's answer stands in words.
 pub mod Words

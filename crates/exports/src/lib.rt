@@ -1,12 +1,12 @@
-// The C interface: measures, preparing and the five questions. A slice is a pointer and a length. An answer is written to an array of the caller's:
-// preparing's to two words, a question's to eighteen.
+// The C interface: measures, preparing and the five questions. A slice is a pointer and a length. Preparing's answer is written to two words of the
+// caller's; a question's is a struct of eighteen words by value, which the caller has room for and no word of which is copied.
 ghost use mathlib.Core.Path.{_≡_};
 ghost use lib.ListN.{length};
 ghost use Rattle.base.specs.Limits.{tableWords, spaceWords};
 ghost use Rattle.table.specs.Preparing.{preparing, tableAfter, spaceAfter};
 ghost use Rattle.answers.specs.Answers.{answerTo};
 ghost use Rattle.answers.specs.Steps.{level, climbing, rating, ancestry, branch};
-ghost use Rattle.exports.specs.Words.{replyWords, answerWords};
+ghost use Rattle.exports.specs.Words.{replyWords};
 use answers::Answer;
 use base::Node;
 
@@ -43,70 +43,42 @@ pub extern "C" fn tantsheko_prepare(
     *reply = [r.number, r.word];
 }
 
-// An answer in words.
-fn words(r: Answer) -> [u32; 18]
-    ensures { λ w. ⌜ w ≡ answerWords r ⌝ }
-{
-    let cells = r.cells;
-    let at = cells.at;
-    [
-        r.number,
-        r.word,
-        at[0],
-        at[1],
-        at[2],
-        at[3],
-        at[4],
-        at[5],
-        at[6],
-        at[7],
-        at[8],
-        at[9],
-        at[10],
-        at[11],
-        at[12],
-        at[13],
-        at[14],
-        cells.count,
-    ]
-}
-
 // The class of v at depth d.
 #[no_mangle]
-pub extern "C" fn tantsheko_level(table: &[u32], v: u32, d: u32, answer: &mut [u32; 18])
-    ensures { λ _. ⌜ now (answer .exit) ≡ answerWords (answerTo (now (table .entry)) (level (length (now (table .entry))) v d)) ⌝ }
+pub extern "C" fn tantsheko_level(table: &[u32], v: u32, d: u32) -> Answer
+    ensures { λ r. ⌜ r ≡ answerTo (now (table .entry)) (level (length (now (table .entry))) v d) ⌝ }
 {
-    *answer = words(query::level(table, Node(v), d));
+    query::level(table, Node(v), d)
 }
 
 // The entry k above v.
 #[no_mangle]
-pub extern "C" fn tantsheko_climb(table: &[u32], v: u32, k: u32, answer: &mut [u32; 18])
-    ensures { λ _. ⌜ now (answer .exit) ≡ answerWords (answerTo (now (table .entry)) (climbing (length (now (table .entry))) v k)) ⌝ }
+pub extern "C" fn tantsheko_climb(table: &[u32], v: u32, k: u32) -> Answer
+    ensures { λ r. ⌜ r ≡ answerTo (now (table .entry)) (climbing (length (now (table .entry))) v k) ⌝ }
 {
-    *answer = words(query::climb(table, Node(v), k));
+    query::climb(table, Node(v), k)
 }
 
 // The class of v at rating level d.
 #[no_mangle]
-pub extern "C" fn tantsheko_rating(table: &[u32], v: u32, d: u32, answer: &mut [u32; 18])
-    ensures { λ _. ⌜ now (answer .exit) ≡ answerWords (answerTo (now (table .entry)) (rating (length (now (table .entry))) v d)) ⌝ }
+pub extern "C" fn tantsheko_rating(table: &[u32], v: u32, d: u32) -> Answer
+    ensures { λ r. ⌜ r ≡ answerTo (now (table .entry)) (rating (length (now (table .entry))) v d) ⌝ }
 {
-    *answer = words(query::rating(table, Node(v), d));
+    query::rating(table, Node(v), d)
 }
 
 // Whether u is at or above v: 1 or 0.
 #[no_mangle]
-pub extern "C" fn tantsheko_ancestry(table: &[u32], u: u32, v: u32, answer: &mut [u32; 18])
-    ensures { λ _. ⌜ now (answer .exit) ≡ answerWords (answerTo (now (table .entry)) (ancestry (length (now (table .entry))) u v)) ⌝ }
+pub extern "C" fn tantsheko_ancestry(table: &[u32], u: u32, v: u32) -> Answer
+    ensures { λ r. ⌜ r ≡ answerTo (now (table .entry)) (ancestry (length (now (table .entry))) u v) ⌝ }
 {
-    *answer = words(query::ancestry(table, Node(u), Node(v)));
+    query::ancestry(table, Node(u), Node(v))
 }
 
 // The child of u on the way to v.
 #[no_mangle]
-pub extern "C" fn tantsheko_branch(table: &[u32], u: u32, v: u32, answer: &mut [u32; 18])
-    ensures { λ _. ⌜ now (answer .exit) ≡ answerWords (answerTo (now (table .entry)) (branch (length (now (table .entry))) u v)) ⌝ }
+pub extern "C" fn tantsheko_branch(table: &[u32], u: u32, v: u32) -> Answer
+    ensures { λ r. ⌜ r ≡ answerTo (now (table .entry)) (branch (length (now (table .entry))) u v) ⌝ }
 {
-    *answer = words(query::branch(table, Node(u), Node(v)));
+    query::branch(table, Node(u), Node(v))
 }

@@ -1,5 +1,7 @@
 //! The proved functions as the static library has them: a slice is a pointer and a length.
 
+use crate::table::Answer;
+
 extern "C" {
     pub fn tantsheko_table_words(n: u32) -> u64;
     pub fn tantsheko_space_words(n: u32) -> u64;
@@ -12,9 +14,9 @@ extern "C" {
         space_len: usize,
         reply: *mut u32,
     );
-    pub fn tantsheko_level(table: *const u32, len: usize, v: u32, d: u32, answer: *mut u32);
-    pub fn tantsheko_climb(table: *const u32, len: usize, v: u32, k: u32, answer: *mut u32);
-    pub fn tantsheko_rating(table: *const u32, len: usize, v: u32, d: u32, answer: *mut u32);
-    pub fn tantsheko_ancestry(table: *const u32, len: usize, u: u32, v: u32, answer: *mut u32);
-    pub fn tantsheko_branch(table: *const u32, len: usize, u: u32, v: u32, answer: *mut u32);
+    pub fn tantsheko_level(table: *const u32, len: usize, v: u32, d: u32) -> Answer;
+    pub fn tantsheko_climb(table: *const u32, len: usize, v: u32, k: u32) -> Answer;
+    pub fn tantsheko_rating(table: *const u32, len: usize, v: u32, d: u32) -> Answer;
+    pub fn tantsheko_ancestry(table: *const u32, len: usize, u: u32, v: u32) -> Answer;
+    pub fn tantsheko_branch(table: *const u32, len: usize, u: u32, v: u32) -> Answer;
 }

@@ -2,7 +2,6 @@
 
 use crate::ffi;
 use crate::refusal::Refusal;
-use std::mem::MaybeUninit;
 
 /// The most entries of a list.
 pub const MOST_ENTRIES: usize = 1_048_576;
@@ -22,7 +21,7 @@ pub fn space_words(n: u32) -> u64 {
     unsafe { ffi::tantsheko_space_words(n) }
 }
 
-/// What a question gives: its result or a refusal, and the cells that it read.
+/// What a question gives: its result or a refusal, and the cells that it read. Laid out as the library's.
 #[derive(Clone, Copy, Debug, PartialEq, Eq)]
 #[repr(C)]
 pub struct Answer {
@@ -57,8 +56,8 @@ impl Answer {
     }
 }
 
-/// A question of the proved library: table, two arguments, and where the eighteen words of its answer go.
-type Question = unsafe extern "C" fn(*const u32, usize, u32, u32, *mut u32);
+/// A question of the proved library: a table and two arguments.
+type Question = unsafe extern "C" fn(*const u32, usize, u32, u32) -> Answer;
 
 /// A table of any contents. On one that was not prepared a question may give `Broken`, never anything worse.
 #[derive(Clone, Debug, PartialEq, Eq)]
@@ -96,14 +95,8 @@ impl Table {
     }
 
     fn ask(&self, question: Question, a: u32, b: u32) -> Answer {
-        let mut answer = MaybeUninit::<Answer>::uninit();
-        // SAFETY: the pointer and the length are the slice's, and the answer is eighteen words, each of which the
-        // question writes.
-        unsafe {
-            let out = answer.as_mut_ptr().cast::<u32>();
-            question(self.words.as_ptr(), self.words.len(), a, b, out);
-            answer.assume_init()
-        }
+        // SAFETY: the pointer and the length are the slice's.
+        unsafe { question(self.words.as_ptr(), self.words.len(), a, b) }
     }
 
     /// The class of v at depth d.
