@@ -3,9 +3,9 @@
 
 mod page;
 mod plot;
-mod trees;
 mod work;
 
+use reference::trees;
 use work::Row;
 
 /// The entries of the trees that are timed.

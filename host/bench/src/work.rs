@@ -1,6 +1,6 @@
 //! What is timed: each piece of work by turns in one run, and its median.
 
-use crate::trees;
+use reference::trees;
 use std::hint::black_box;
 use std::time::Instant;
 use tantsheko::{prepare_into, Table};
@@ -122,13 +122,13 @@ fn other_times(parents: &[u32], depth: &[u32], asked: &[(u32, u32)]) -> (f64, f6
 
 /// Times a tree of a kind, with its numbers permuted.
 pub fn time(n: usize, kind: usize, name: &'static str) -> Row {
-    let parents = trees::make(kind, n, 7 + n as u64, true);
+    let parents = trees::make(kind, n, &mut (7 + n as u64), true);
     let (prepare, words) = prepare_times(&parents);
     let table = Table::from_words(words);
     let words = table.words();
     let depth = &words[4..4 + n];
     let mut seed = 99;
-    let mut below = |k: usize| (trees::next(&mut seed) % k as u64) as u32;
+    let mut below = |k: usize| trees::below(&mut seed, k);
     // An entry with a depth up to its own; with its climbs; and with one of its ancestors, as the upper of two.
     let level: Vec<(u32, u32)> = (0..200_000)
         .map(|_| {

@@ -4,6 +4,7 @@
 mod prepare;
 mod questions;
 mod shapes;
+pub mod trees;
 
 pub use prepare::{prepare, space_words, table_words};
 pub use questions::{ancestry, branch, climb, level, rating, Answer};

@@ -1,50 +1,10 @@
 //! The proved library beside the same work by hand: every word and every answer, on every list that is tried.
 
+use reference::trees::{below, make as tree, next};
 use reference::Answer;
 use tantsheko::{prepare_into, Refusal, Table};
 
 const TOP: u32 = u32::MAX;
-
-/// The next number of a fixed sequence (splitmix64).
-fn next(seed: &mut u64) -> u64 {
-    *seed = seed.wrapping_add(0x9E37_79B9_7F4A_7C15);
-    let mut z = *seed;
-    z = (z ^ (z >> 30)).wrapping_mul(0xBF58_476D_1CE4_E5B9);
-    z = (z ^ (z >> 27)).wrapping_mul(0x94D0_49BB_1331_11EB);
-    z ^ (z >> 31)
-}
-
-fn below(seed: &mut u64, n: usize) -> u32 {
-    (next(seed) % n as u64) as u32
-}
-
-/// A tree of a kind, with its numbers permuted where asked.
-fn tree(kind: usize, n: usize, seed: &mut u64, permuted: bool) -> Vec<u32> {
-    let parents: Vec<u32> = (0..n)
-        .map(|i| match (i, kind % 7) {
-            (0, _) => TOP,
-            (_, 0) => i as u32 - 1,
-            (_, 1) => 0,
-            (_, 2) => below(seed, i),
-            (_, 3) => (i - 1 - (i + 1) % 2) as u32,
-            (_, 4) => (i as u32 - 1) / 2,
-            (_, 5) => (i as u32 - 1).min(n as u32 / 2),
-            _ => i as u32 - 1 - below(seed, i.min(6)),
-        })
-        .collect();
-    if !permuted {
-        return parents;
-    }
-    let mut name: Vec<u32> = (0..n as u32).collect();
-    for i in (1..n).rev() {
-        name.swap(i, below(seed, i + 1) as usize);
-    }
-    let mut list = vec![0; n];
-    for (i, &p) in parents.iter().enumerate() {
-        list[name[i] as usize] = if p == TOP { TOP } else { name[p as usize] };
-    }
-    list
-}
 
 /// The number and the word of preparing's answer.
 fn reply(r: Result<u32, Refusal>) -> (u32, u32) {
