@@ -258,6 +258,10 @@ fn lay_jumps(
     ladders: &[u32],
     jumps: &mut [u32],
 ) -> u32 {
+    let mut lay = |j: usize, number: usize| {
+        let record = &mut jumps[21 * number..][..21];
+        lay_record(order[j], depth[j], ladpos, ladders, record);
+    };
     let mut count = 0;
     // The last entry of size 6 or more so far: a jump entry if the next one lies past its family.
     let mut last = None;
@@ -267,13 +271,7 @@ fn lay_jumps(
         }
         if let Some(j) = last {
             if j + size[j] as usize <= i {
-                lay_record(
-                    order[j],
-                    depth[j],
-                    ladpos,
-                    ladders,
-                    &mut jumps[21 * count..][..21],
-                );
+                lay(j, count);
                 count += 1;
             }
         }
@@ -281,13 +279,7 @@ fn lay_jumps(
         last = Some(i);
     }
     if let Some(j) = last {
-        lay_record(
-            order[j],
-            depth[j],
-            ladpos,
-            ladders,
-            &mut jumps[21 * count..][..21],
-        );
+        lay(j, count);
         count += 1;
     }
     jumps[21 * count..].fill(0);
