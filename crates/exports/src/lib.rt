@@ -1,5 +1,5 @@
 // The C interface: measures, preparing and the five questions. A slice is a pointer and a length. Preparing's answer is written to two words of the
-// caller's; a question's is a struct of eighteen words by value, which the caller has room for and no word of which is copied.
+// caller's; a question's is a struct of eighteen words by value.
 ghost use mathlib.Core.Path.{_≡_};
 ghost use lib.ListN.{length};
 ghost use Rattle.base.specs.Limits.{tableWords, spaceWords};

@@ -248,7 +248,6 @@ fn lay_groups(
 }
 
 /// KIND of the other entries, and JUMPS. Answers the number of jump entries.
-#[allow(clippy::too_many_arguments)]
 fn lay_jumps(
     order: &[u32],
     size: &[u32],
