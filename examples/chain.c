@@ -16,7 +16,8 @@ int main(void) {
         return 1;
     }
     for (uint32_t d = 1; d <= 8; d++) {
-        tantsheko_answer a = tantsheko_level(table, WORDS, 7, d);
+        tantsheko_answer a;
+        tantsheko_level(table, WORDS, 7, d, &a);
         printf("7,%u,%u,%u:", (unsigned)d, (unsigned)a.number, (unsigned)a.word);
         for (uint32_t i = 0; i < a.count; i++)
             printf(" %u", (unsigned)a.cells[i]);

@@ -58,19 +58,19 @@ void tantsheko_prepare(const uint32_t *parents, size_t parents_len, uint32_t *ta
                        size_t space_len, tantsheko_reply *reply);
 
 /* The class of entry v at depth d: its ancestor there. Reads at most ten cells. */
-tantsheko_answer tantsheko_level(const uint32_t *table, size_t table_len, uint32_t v, uint32_t d);
+void tantsheko_level(const uint32_t *table, size_t table_len, uint32_t v, uint32_t d, tantsheko_answer *answer);
 
 /* The entry k climbs above v. Reads at most ten cells. */
-tantsheko_answer tantsheko_climb(const uint32_t *table, size_t table_len, uint32_t v, uint32_t k);
+void tantsheko_climb(const uint32_t *table, size_t table_len, uint32_t v, uint32_t k, tantsheko_answer *answer);
 
 /* The class of entry v at rating level d. Reads at most ten cells. */
-tantsheko_answer tantsheko_rating(const uint32_t *table, size_t table_len, uint32_t v, uint32_t d);
+void tantsheko_rating(const uint32_t *table, size_t table_len, uint32_t v, uint32_t d, tantsheko_answer *answer);
 
 /* Whether u is at or above v: the result is 1 or 0. */
-tantsheko_answer tantsheko_ancestry(const uint32_t *table, size_t table_len, uint32_t u, uint32_t v);
+void tantsheko_ancestry(const uint32_t *table, size_t table_len, uint32_t u, uint32_t v, tantsheko_answer *answer);
 
 /* The child of u on the way to v. Reads at most fifteen cells. */
-tantsheko_answer tantsheko_branch(const uint32_t *table, size_t table_len, uint32_t u, uint32_t v);
+void tantsheko_branch(const uint32_t *table, size_t table_len, uint32_t u, uint32_t v, tantsheko_answer *answer);
 
 #ifdef __cplusplus
 }

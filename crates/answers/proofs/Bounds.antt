@@ -58,17 +58,17 @@ jump-within n d jump = search bounds depth 40
 
 -- ten cells for the level lookup, a climb and a rating, four for ancestry, fifteen for branch
 module _ (len : ℕ) where
-  looked : (climbs : Bool) (v x : ℕ) → Within 10 (opened len (entered climbs v x))
+  pub look-within : (climbs : Bool) (v x : ℕ) → Within 10 (opened len (entered climbs v x))
   unfolding opened counted entered deep descended kinded fromGroup shaped inGroup inOrder leftGroup overGroup fromJump leaped jumped landed ladder answer Within
-  looked climbs v x = search bounds depth 40
+  look-within climbs v x = search bounds depth 40
 
   pub level-within : (v d : ℕ) → Within 10 (level len v d)
   unfolding level
-  level-within v d = looked false v d
+  level-within v d = look-within false v d
 
   pub climbing-within : (v k : ℕ) → Within 10 (climbing len v k)
   unfolding climbing
-  climbing-within v k = looked true v k
+  climbing-within v k = look-within true v k
 
   pub rating-within : (v d : ℕ) → Within 10 (rating len v d)
   unfolding rating

@@ -1,5 +1,5 @@
 -- "An answer carries up to fifteen cell numbers and their count." Assumes nothing.
-use mathlib.Core.List.{List, [], _∷_}
+use mathlib.Core.List.{List, [], _∷_, _++_}
 use mathlib.Core.Bool.{Bool, true, false}
 use mathlib.Core.Path.{_≡_}
 use Prim.Native.Nat.{ℕ, _+_, _<_}
@@ -40,6 +40,10 @@ answerTo t p = record { number = run t p .number; word = run t p .word; cells = 
 unfoldable pub answerFrom : List ℕ → Cells → Reading → Answer
 answerFrom t cs (done o) = record { number = o .number; word = o .word; cells = cs }
 answerFrom t cs (read cell k) = answerFrom t (pushed cs cell) (k (wordAt t cell))
+
+-- an answer in words: its number and result word, fifteen places of cells, and their count
+unfoldable pub answerWords : Answer → List ℕ
+answerWords r = r .number ∷ r .word ∷ (r .cells .at ++ (r .cells .count ∷ []))
 
 -- two tables have the same words in the cells that an answer lists
 abbrev pub SameAt : Answer → List ℕ → List ℕ → Type 0

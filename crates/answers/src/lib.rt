@@ -2,8 +2,8 @@
 ghost use mathlib.Core.Path.{_≡_};
 ghost use mathlib.Core.List.{[]};
 ghost use Prim.Native.Nat.{_+_, _<_};
-ghost use lib.ListN.{set};
-ghost use Rattle.answers.specs.Answers.{pushed, listed};
+ghost use lib.ListN.{length, set};
+ghost use Rattle.answers.specs.Answers.{pushed, listed, answerWords};
 
 // The cells read, in the order read. Places past the count are 0.
 #[repr(C)]
@@ -63,6 +63,68 @@ impl Cells {
             13 => self.put(13, cell),
             14 => self.put(14, cell),
             _ => self,
+        }
+    }
+}
+
+impl Answer {
+    // In words, as they are handed to other languages.
+    pub fn words(self) -> [u32; 18]
+        ensures { λ r. ⌜ r ≡ answerWords self ⌝ }
+    {
+        let cells = self.cells;
+        let at = cells.at;
+        [
+            self.number,
+            self.word,
+            at[0],
+            at[1],
+            at[2],
+            at[3],
+            at[4],
+            at[5],
+            at[6],
+            at[7],
+            at[8],
+            at[9],
+            at[10],
+            at[11],
+            at[12],
+            at[13],
+            at[14],
+            cells.count,
+        ]
+    }
+
+    // The answer that stands in words.
+    pub fn of_words(words: [u32; 18]) -> Answer
+        ensures { λ r. ⌜ ((a : Answer) → length (a .cells .at) ≡ 15 → words ≡ answerWords a → r ≡ a) ⌝ }
+    {
+        let at = [
+            words[2],
+            words[3],
+            words[4],
+            words[5],
+            words[6],
+            words[7],
+            words[8],
+            words[9],
+            words[10],
+            words[11],
+            words[12],
+            words[13],
+            words[14],
+            words[15],
+            words[16],
+        ];
+        let cells = Cells {
+            at,
+            count: words[17],
+        };
+        Answer {
+            number: words[0],
+            word: words[1],
+            cells,
         }
     }
 }

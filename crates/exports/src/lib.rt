@@ -1,13 +1,12 @@
-// The C interface: measures, preparing and the five questions. A slice is a pointer and a length. Preparing's answer is written to two words of the
-// caller's; a question's is a struct of eighteen words by value.
+// The C interface: measures, preparing and the five questions. A slice is a pointer and a length. An answer is written to an array of the caller's:
+// preparing's to two words, a question's to eighteen.
 ghost use mathlib.Core.Path.{_≡_};
 ghost use lib.ListN.{length};
 ghost use Rattle.base.specs.Limits.{tableWords, spaceWords};
 ghost use Rattle.table.specs.Preparing.{preparing, tableAfter, spaceAfter};
-ghost use Rattle.answers.specs.Answers.{answerTo};
+ghost use Rattle.answers.specs.Answers.{answerTo, answerWords};
 ghost use Rattle.answers.specs.Steps.{level, climbing, rating, ancestry, branch};
 ghost use Rattle.exports.specs.Words.{replyWords};
-use answers::Answer;
 use base::Node;
 
 // W: the words of a table for n entries.
@@ -45,40 +44,42 @@ pub extern "C" fn tantsheko_prepare(
 
 // The class of v at depth d.
 #[no_mangle]
-pub extern "C" fn tantsheko_level(table: &[u32], v: u32, d: u32) -> Answer
-    ensures { λ r. ⌜ r ≡ answerTo (now (table .entry)) (level (length (now (table .entry))) v d) ⌝ }
+pub extern "C" fn tantsheko_level(table: &[u32], v: u32, d: u32, answer: &mut [u32; 18])
+    ensures { λ _. ⌜ now (answer .exit) ≡ answerWords (answerTo (now (table .entry)) (level (length (now (table .entry))) v d)) ⌝ }
 {
-    query::level(table, Node(v), d)
+    query::look_words(table, false, Node(v), d, answer);
 }
 
 // The entry k above v.
 #[no_mangle]
-pub extern "C" fn tantsheko_climb(table: &[u32], v: u32, k: u32) -> Answer
-    ensures { λ r. ⌜ r ≡ answerTo (now (table .entry)) (climbing (length (now (table .entry))) v k) ⌝ }
+pub extern "C" fn tantsheko_climb(table: &[u32], v: u32, k: u32, answer: &mut [u32; 18])
+    ensures { λ _. ⌜ now (answer .exit) ≡ answerWords (answerTo (now (table .entry)) (climbing (length (now (table .entry))) v k)) ⌝ }
 {
-    query::climb(table, Node(v), k)
+    query::look_words(table, true, Node(v), k, answer);
 }
 
 // The class of v at rating level d.
 #[no_mangle]
-pub extern "C" fn tantsheko_rating(table: &[u32], v: u32, d: u32) -> Answer
-    ensures { λ r. ⌜ r ≡ answerTo (now (table .entry)) (rating (length (now (table .entry))) v d) ⌝ }
+pub extern "C" fn tantsheko_rating(table: &[u32], v: u32, d: u32, answer: &mut [u32; 18])
+    ensures { λ _. ⌜ now (answer .exit) ≡ answerWords (answerTo (now (table .entry)) (rating (length (now (table .entry))) v d)) ⌝ }
 {
-    query::rating(table, Node(v), d)
+    query::look_words(table, false, Node(v), d, answer);
 }
 
 // Whether u is at or above v: 1 or 0.
 #[no_mangle]
-pub extern "C" fn tantsheko_ancestry(table: &[u32], u: u32, v: u32) -> Answer
-    ensures { λ r. ⌜ r ≡ answerTo (now (table .entry)) (ancestry (length (now (table .entry))) u v) ⌝ }
+pub extern "C" fn tantsheko_ancestry(table: &[u32], u: u32, v: u32, answer: &mut [u32; 18])
+    ensures { λ _. ⌜ now (answer .exit) ≡ answerWords (answerTo (now (table .entry)) (ancestry (length (now (table .entry))) u v)) ⌝ }
 {
-    query::ancestry(table, Node(u), Node(v))
+    let found = query::ancestry(table, Node(u), Node(v));
+    *answer = found.words();
 }
 
 // The child of u on the way to v.
 #[no_mangle]
-pub extern "C" fn tantsheko_branch(table: &[u32], u: u32, v: u32) -> Answer
-    ensures { λ r. ⌜ r ≡ answerTo (now (table .entry)) (branch (length (now (table .entry))) u v) ⌝ }
+pub extern "C" fn tantsheko_branch(table: &[u32], u: u32, v: u32, answer: &mut [u32; 18])
+    ensures { λ _. ⌜ now (answer .exit) ≡ answerWords (answerTo (now (table .entry)) (branch (length (now (table .entry))) u v)) ⌝ }
 {
-    query::branch(table, Node(u), Node(v))
+    let found = query::branch(table, Node(u), Node(v));
+    *answer = found.words();
 }

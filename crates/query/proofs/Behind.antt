@@ -8,15 +8,13 @@ use lib.ListN.{length, getD, take, set}
 use lib.Seq.{set-getD}
 use lib.Dec.{lit≤, ltb}
 use borrow.Author.Tests.{lt-ltb}
-use Rattle.base.proofs.Joined.{padded-length}
 use Rattle.answers.specs.Reading.{Reading, run, trace}
 use Rattle.answers.specs.Answers.{pickCells, pushed, pushedAll, listed, answerTo, answerFrom}
 use Rattle.answers.specs.Steps.{fromJump}
 use Rattle.answers.specs.declared.Answer.{Answer}
 use Rattle.answers.specs.declared.Cells.{Cells}
-use Rattle.answers.proofs.Answering.{from-is, whole, few, cells-listed}
+use Rattle.answers.proofs.Answering.{from-is, whole, few, fifteen-places, cells-listed}
 use Rattle.answers.proofs.Bounds.{jump-within}
-use Rattle.answers.proofs.Locality.{within-trace}
 
 -- a part's answer with its cells behind those so far is the answer of going on with it
 pub part-goes : (t : List ℕ) (cs : Cells) (p : Reading) (a : Answer) (all : Cells) → a ≡ answerTo t p → all ≡ pushedAll cs (take (a .cells .count) (a .cells .at))
@@ -35,8 +33,7 @@ module _ (t : List ℕ) (n d jump : ℕ) (a : Answer) (e : a ≡ answerFrom t (l
   jump-four = rw jump-answer (few t 4 (fromJump n d jump) (jump-within n d jump))
 
   pub jump-long : length (a .cells .at) ≡ 15
-  unfolding answerTo listed
-  jump-long = rw jump-answer (padded-length 15 (trace t (fromJump n d jump)) (omega (arith, within-trace t 4 (fromJump n d jump) (jump-within n d jump))))
+  jump-long = rw jump-answer (fifteen-places t 4 (fromJump n d jump) (jump-within n d jump) (lit≤ tt))
 
   pub jump-goes : (cs all : Cells) → all ≡ pushedAll cs (take (a .cells .count) (a .cells .at)) → record { number = a .number; word = a .word; cells = all } ≡ answerFrom t cs (fromJump n d jump)
   jump-goes cs all h = part-goes t cs (fromJump n d jump) a all jump-answer h

@@ -7,7 +7,7 @@ ghost use Rattle.base.specs.Limits.{Sized};
 ghost use Rattle.answers.specs.Answers.{listed, answerFrom};
 ghost use Rattle.answers.specs.Steps.{branch, strictly, deeper};
 use crate::joining::joined;
-use crate::look::look;
+use crate::look::look_words;
 use crate::reading::broken;
 use crate::reading::read;
 use crate::relate::stand;
@@ -23,7 +23,9 @@ fn deeper(table: &[u32], n: u32, v: Node, depth: u32, cells: Cells) -> Answer
     if n <= depth {
         return broken(cells);
     }
-    let inner = look(table, false, v, depth + 1);
+    let mut words: [u32; 18] = [0; 18];
+    look_words(table, false, v, depth + 1, &mut words);
+    let inner = Answer::of_words(words);
     let more = inner.cells;
     let all = joined(cells, more);
     if inner.number == 8 {

@@ -8,6 +8,7 @@ mod power;
 mod reading;
 mod relate;
 
+pub use look::look_words;
 ghost use mathlib.Core.Path.{_≡_};
 ghost use mathlib.Core.List.{List, [], _∷_};
 ghost use Prim.Native.Nat.{ℕ, _≤_};

@@ -4,7 +4,7 @@ ghost use mathlib.Core.List.{[]};
 ghost use Prim.Native.Nat.{_<_, _≤_};
 ghost use lib.ListN.{length};
 ghost use Rattle.base.specs.Limits.{Sized};
-ghost use Rattle.answers.specs.Answers.{listed, answerFrom};
+ghost use Rattle.answers.specs.Answers.{listed, answerFrom, answerTo, answerWords};
 ghost use Rattle.answers.specs.Steps.{opened, entered, deep, wanted, descended, kinded};
 ghost use Rattle.query.specs.Parts.{countFrom, OpenedBy};
 use crate::group::from_group;
@@ -139,4 +139,13 @@ pub(crate) fn look(table: &[u32], climbs: bool, v: Node, x: u32) -> Answer
         return broken(cells);
     }
     entered(table, n, climbs, v, x, cells)
+}
+
+// As `look`, in words of the caller's. The questions of other languages and branch ask here alone, so that the compiler sets the steps in place once and
+// writes each word where it is wanted.
+pub fn look_words(table: &[u32], climbs: bool, v: Node, x: u32, words: &mut [u32; 18])
+    ensures { λ _. ⌜ now (words .exit) ≡ answerWords (answerTo (now (table .entry)) (opened (length (now (table .entry))) (entered climbs (v .0) x))) ⌝ }
+{
+    let answer = look(table, climbs, v, x);
+    *words = answer.words();
 }

@@ -14,9 +14,9 @@ extern "C" {
         space_len: usize,
         reply: *mut u32,
     );
-    pub fn tantsheko_level(table: *const u32, len: usize, v: u32, d: u32) -> Answer;
-    pub fn tantsheko_climb(table: *const u32, len: usize, v: u32, k: u32) -> Answer;
-    pub fn tantsheko_rating(table: *const u32, len: usize, v: u32, d: u32) -> Answer;
-    pub fn tantsheko_ancestry(table: *const u32, len: usize, u: u32, v: u32) -> Answer;
-    pub fn tantsheko_branch(table: *const u32, len: usize, u: u32, v: u32) -> Answer;
+    pub fn tantsheko_level(table: *const u32, len: usize, v: u32, d: u32, answer: *mut Answer);
+    pub fn tantsheko_climb(table: *const u32, len: usize, v: u32, k: u32, answer: *mut Answer);
+    pub fn tantsheko_rating(table: *const u32, len: usize, v: u32, d: u32, answer: *mut Answer);
+    pub fn tantsheko_ancestry(table: *const u32, len: usize, u: u32, v: u32, answer: *mut Answer);
+    pub fn tantsheko_branch(table: *const u32, len: usize, u: u32, v: u32, answer: *mut Answer);
 }

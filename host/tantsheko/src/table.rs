@@ -2,6 +2,7 @@
 
 use crate::ffi;
 use crate::refusal::Refusal;
+use std::mem::MaybeUninit;
 
 /// The most entries of a list.
 pub const MOST_ENTRIES: usize = 1_048_576;
@@ -57,7 +58,7 @@ impl Answer {
 }
 
 /// A question of the proved library: a table and two arguments.
-type Question = unsafe extern "C" fn(*const u32, usize, u32, u32) -> Answer;
+type Question = unsafe extern "C" fn(*const u32, usize, u32, u32, *mut Answer);
 
 /// A table of any contents. On one that was not prepared a question may give `Broken`, never anything worse.
 #[derive(Clone, Debug, PartialEq, Eq)]
@@ -94,32 +95,48 @@ impl Table {
         self.words.first().copied().unwrap_or(0)
     }
 
+    #[inline]
     fn ask(&self, question: Question, a: u32, b: u32) -> Answer {
-        // SAFETY: the pointer and the length are the slice's.
-        unsafe { question(self.words.as_ptr(), self.words.len(), a, b) }
+        let mut answer = MaybeUninit::uninit();
+        // SAFETY: the pointer and the length are the slice's, and a question writes every word of its answer.
+        unsafe {
+            question(
+                self.words.as_ptr(),
+                self.words.len(),
+                a,
+                b,
+                answer.as_mut_ptr(),
+            );
+            answer.assume_init()
+        }
     }
 
     /// The class of v at depth d.
+    #[inline]
     pub fn level(&self, v: u32, d: u32) -> Answer {
         self.ask(ffi::tantsheko_level, v, d)
     }
 
     /// The entry k above v.
+    #[inline]
     pub fn climb(&self, v: u32, k: u32) -> Answer {
         self.ask(ffi::tantsheko_climb, v, k)
     }
 
     /// The class of v at rating level d.
+    #[inline]
     pub fn rating(&self, v: u32, d: u32) -> Answer {
         self.ask(ffi::tantsheko_rating, v, d)
     }
 
     /// Whether u is at or above v: 1 or 0.
+    #[inline]
     pub fn ancestry(&self, u: u32, v: u32) -> Answer {
         self.ask(ffi::tantsheko_ancestry, u, v)
     }
 
     /// The child of u on the way to v.
+    #[inline]
     pub fn branch(&self, u: u32, v: u32) -> Answer {
         self.ask(ffi::tantsheko_branch, u, v)
     }

@@ -1,0 +1,16 @@
+-- `tantsheko_level` meets its contract. Assumes nothing.
+use borrow.Author.Needs.{needs}
+use Rattle.answers.specs.Steps.{level}
+use Rattle.exports.proofs.tantsheko_level.Statement.{statement}
+use Rattle.exports.proofs.tantsheko_level.Tie as tie
+
+returns : tie.Need-returns
+unfolding level
+returns c = c .look-words .ensures
+
+pub tantsheko-level-spec : {M : Type 1} → statement M
+tantsheko-level-spec =
+    tie.close
+    (tie.spec
+    (λ c κs. search needs)
+    returns)
