@@ -21,6 +21,7 @@ use Rattle.climbs.proofs.Groups.{root-above, one-root}
 abbrev pub Ended : ℕ → List ℕ → ℕ → ℕ → Type 0
 Ended L ps i end = (k : ℕ) → k < i → groupRoot L ps (getD (order ps) k 0) ≡ true → k + size ps (getD (order ps) k 0) ≤ end
 
+-- a macro entry is no root
 pub macro-none : (L : ℕ) (ps : List ℕ) (v : ℕ) → micro L ps v ≡ false → groupRoot L ps v ≡ false
 unfolding groupRoot
 macro-none L ps v m = rw m
@@ -44,7 +45,7 @@ module _ (ps : List ℕ) (small : length ps ≤ topMark) (tree : Tree ps) (L : �
       go r e is low high (yes k) = absurd (omega (arith, s (position ps r) k (ap (groupRoot L ps) is ∙ e), ap (size ps) is))
       go r e is low high (no k) = let z : i ≡ position ps r = omega arith in ap (groupRoot L ps) (ap on z ∙ is) ∙ e
 
-  -- inside a group stand entries below its root, which are none
+  -- what stands in a family is below its first entry, and below a root there is no other
   module _ (k i : ℕ) (h : i < length ps) (low : k ≤ i) (high : i < k + size ps (on k)) where
     pub in-family : Ancestor ps (on k) (on i)
     in-family =
@@ -61,7 +62,7 @@ module _ (ps : List ℕ) (small : length ps ≤ topMark) (tree : Tree ps) (L : �
             let z = one-root ps small tree L (on k) (on i) (on i) e q in-family (ancestor-self ps small tree (on i) (order-in ps small tree i h)) in
             absurd (omega (arith, ap (position ps) z, position-of ps small tree k (omega arith), position-of ps small tree i h))
 
-  -- past a position with no root, past a root, and past its group
+  -- one position further, with no root there or with one, and past a root's group
   pub ended-same : (i end : ℕ) → groupRoot L ps (on i) ≡ false → Ended L ps i end → Ended L ps (i + 1) end
   ended-same i end e s = below-more _ i s (λ q. clash (sym e ∙ q))
 

@@ -1,4 +1,5 @@
--- `grouping::groups` meets its contract: the words of the groups among the positions before the next are laid end to end, with zeros behind. Assumes nothing.
+-- `grouping::groups` meets its contract: the words of the groups among the positions before the next, which end there or before, are laid end to end, with zeros behind.
+-- Assumes nothing.
 use mathlib.Core.Path.{_≡_, sym, ap, _∙_}
 use mathlib.Core.List.{List}
 use Prim.Native.Nat.{ℕ, _+_, _*_, _-_, _≤_, _<_}
