@@ -19,14 +19,14 @@ use Rattle.tree.specs.Faults.{Tree}
 use Rattle.tree.proofs.OneTree.{tree-meets}
 use Rattle.tree.proofs.Levels.{under-levels}
 use Rattle.tree.proofs.Positions.{order-length, at-position, position-of, order-in}
-use Rattle.tree.specs.Level.{Ancestor}
 use Rattle.tree.proofs.Intervals.{ancestor-self, family-room, interval, parent-before, family-drop}
 use Rattle.table.specs.Groups.{groupRoot, groupWords}
 use Rattle.shapes.specs.Walks.{walkRound, shapeNumber}
-use Rattle.climbs.proofs.Groups.{rootsWithin, root-micro, one-root}
-use Rattle.climbs.proofs.Jumps.{micro-size}
+use Rattle.climbs.proofs.Groups.{rootsWithin}
+use Rattle.climbs.proofs.Jumps.{size-micro, size-macro}
 use Rattle.fill.specs.Arrays.{entryAt, abovePosition, Climbs, Members, Grouped}
 use Rattle.fill.proofs.Laddering.{Over, array-length, array-word, over-at}
+use Rattle.fill.proofs.Rooting.{Ended, macro-none, root-next, root-none, ended-same, ended-group}
 use Rattle.fill.proofs.Kinding.{count-small}
 use Rattle.fill.proofs.Rising.{ord-length}
 
@@ -89,8 +89,13 @@ module _ (ps ord above : List ℕ) (c : Climbs ps ord above) where
     word-next = rw (upper .parent-is) (ap (λ l. getD l (getD above i 0) 0) (c .order-is) ∙ ap (entryAt ps) upper-word ∙ at-position ps small (c .tree) (upper .over) (upper .inside))
 
 -- the words of the groups among the first i positions, zeros behind, and where the next stand
-abbrev pub Gathered : List ℕ → ℕ → ℕ → List ℕ → Type 0
-Gathered ps i at cells = Laid (replicate (3 * length ps) 0) (flatMap (groupWords groupLimit ps) (rootsWithin groupLimit ps i)) cells at
+abbrev Words : List ℕ → ℕ → ℕ → List ℕ → Type 0
+Words ps i at cells = Laid (replicate (3 * length ps) 0) (flatMap (groupWords groupLimit ps) (rootsWithin groupLimit ps i)) cells at
+
+-- and none of those groups goes on at position i
+pub record Gathered (ps : List ℕ) (i at : ℕ) (cells : List ℕ) : Type 0 where
+  pub words : Words ps i at cells
+  pub ended : Ended groupLimit ps i i
 
 module _ (ps ord deep sizes above : List ℕ) (m : Members ps ord deep sizes above) where
   few : length ps ≤ mostEntries
@@ -103,7 +108,7 @@ module _ (ps ord deep sizes above : List ℕ) (m : Members ps ord deep sizes abo
   little = omega (arith, few)
 
   pub climbs-from : Climbs ps ord above
-  climbs-from = record { few = few; tree = tree; order-is = m .order-is; aboves = m .families .aboves }
+  climbs-from = record { few = few; tree = tree; order-is = m .order-is; aboves = m .aboves }
 
   pub entries : length ord ≡ length ps
   entries = ord-length ps ord above climbs-from
@@ -115,15 +120,15 @@ module _ (ps ord deep sizes above : List ℕ) (m : Members ps ord deep sizes abo
   unfolding keep flatMap
   gather-none n cells e q =
       let z : n ≡ 3 * length ps = omega (arith, entries) in
-      rw (q, z) (laid-none (replicate (3 * length ps) 0))
+      record { words = rw (q, z) (laid-none (replicate (3 * length ps) 0)); ended = λ k b. absurd (omega arith) }
 
   pub gather-end : (i at : ℕ) (cells : List ℕ) → length ord ≤ i → Gathered ps i at cells → Grouped ps cells
   unfolding Grouped padded
   gather-end i at cells h g =
       let whole : take i (order ps) ≡ order ps = take-all i (order ps) (omega (arith, entries, order-length ps little tree)) in
       let words = flatMap (groupWords groupLimit ps) (rootsWithin groupLimit ps i) in
-      let q : drop {A = ℕ} at (replicate (3 * length ps) 0) ≡ replicate (3 * length ps - length words) 0 = drop-zeros at (3 * length ps) ∙ ap (λ k. replicate (3 * length ps - k) 0) (sym (g .size)) in
-      rw whole at (g .is ∙ ap (λ l. words ++ l) q)
+      let q : drop {A = ℕ} at (replicate (3 * length ps) 0) ≡ replicate (3 * length ps - length words) 0 = drop-zeros at (3 * length ps) ∙ ap (λ k. replicate (3 * length ps - k) 0) (sym (g .words .size)) in
+      rw whole at (g .words .is ∙ ap (λ l. words ++ l) q)
 
   module _ (i at : ℕ) (cells : List ℕ) (h : i < length ord) (g : Gathered ps i at cells) where
     abbrev v : ℕ
@@ -140,31 +145,10 @@ module _ (ps ord deep sizes above : List ℕ) (m : Members ps ord deep sizes abo
 
     gather-at : at ≡ 3 * length (rootsWithin groupLimit ps i)
     unfolding groupWords
-    gather-at = sym (g .size) ∙ rows-length (groupWords groupLimit ps) 3 (λ x. refl) (rootsWithin groupLimit ps i)
+    gather-at = sym (g .words .size) ∙ rows-length (groupWords groupLimit ps) 3 (λ x. refl) (rootsWithin groupLimit ps i)
 
     gather-room : at + 3 ≤ 3 * length ps
     gather-room = omega (arith, gather-at, count-small (groupRoot groupLimit ps) (order ps) i, entries)
-
-    -- a position where no group has its root
-    pub gather-same : groupRoot groupLimit ps v ≡ false → Gathered ps (i + 1) at cells
-    gather-same e = rw (keep-same (groupRoot groupLimit ps) (order ps) i inner e) g
-
-    -- a group's own words, behind the others
-    pub gather-more : groupRoot groupLimit ps v ≡ true → (shape over : ℕ) → shape ≡ shapeNumber groupLimit (walkRound (under ps v)) → over ≡ Option·getD (parent ps v) topMark
-        → Gathered ps (i + 1) (at + 3) (set (set (set cells at i) (at + 1) shape) (at + 2) over)
-    unfolding groupWords
-    gather-more e shape over s o =
-        let old : List ℕ = replicate (3 * length ps) 0 in
-        let n : length old ≡ 3 * length ps = length-replicate {A = ℕ} (3 * length ps) 0 in
-        let l = laid-more over (omega (arith, gather-room)) (laid-more shape (omega (arith, gather-room)) (laid-more i (omega (arith, gather-room)) g)) in
-        let words = flatMap (groupWords groupLimit ps) (rootsWithin groupLimit ps i) in
-        let q : flatMap (groupWords groupLimit ps) (rootsWithin groupLimit ps (i + 1)) ≡ ((words ++ i ∷ []) ++ shape ∷ []) ++ over ∷ [] =
-        ap (flatMap (groupWords groupLimit ps)) (keep-next (groupRoot groupLimit ps) (order ps) i inner e)
-        ∙ rows-more (groupWords groupLimit ps) (rootsWithin groupLimit ps i) v
-        ∙ rw (at-v, ← s, ← o) (simp append-assoc) in
-        let z : (at + 1) + 1 ≡ at + 2 = omega arith in
-        let y : (at + 2) + 1 ≡ at + 3 = omega arith in
-        rw (q, ← y) (rw z at l)
 
     -- the depths from there on are those of the group, and of what stands behind it
     pub group-depths : drop i deep ≡ depth ps v ∷ (levels (suc (depth ps v)) (under ps v) ++ map (depth ps) (drop (position ps v + size ps v) (order ps)))
@@ -179,45 +163,57 @@ module _ (ps ord deep sizes above : List ℕ) (m : Members ps ord deep sizes abo
     pub group-size : getD sizes i 0 ≡ size ps v
     group-size = array-word ps few tree (size ps) sizes (m .families .sizes-are) i (omega (arith, entries))
 
-    -- the group's end, and no other root up to there
+    -- where the family ends
     pub group-room : i + getD sizes i 0 ≤ length ord
     group-room = omega (arith, group-size, family-room ps little tree v hv, at-v, entries)
 
     pub group-some : 0 < getD sizes i 0
     group-some = omega (arith, group-size, interval ps little tree v v hv hv .0 (ancestor-self ps little tree v hv) .1)
 
-    inside-none : groupRoot groupLimit ps v ≡ true → (j : ℕ) → i < j → j < i + size ps v → groupRoot groupLimit ps (entryAt ps j) ≡ false
-    inside-none e j b k = go (groupRoot groupLimit ps (entryAt ps j)) refl
-      where
-        low : j < length ps
-        low = omega (arith, family-room ps little tree v hv, at-v)
+    -- past an entry of a larger size
+    pub gather-same : groupLimit < getD sizes i 0 → Gathered ps (i + 1) at cells
+    gather-same b =
+        let e = macro-none groupLimit ps v (size-macro groupLimit ps v (omega (arith, group-size))) in
+        record {
+          words = rw (keep-same (groupRoot groupLimit ps) (order ps) i inner e) (g .words);
+          ended = λ k l q. omega (arith, ended-same ps little tree groupLimit i i e (g .ended) k l q);
+        }
 
-        hu : entryAt ps j < length ps
-        hu = order-in ps little tree j low
+    -- a group: its own words behind the others, and no other root up to its end
+    module _ (b : getD sizes i 0 ≤ groupLimit) where
+      starts : groupRoot groupLimit ps v ≡ true
+      starts = root-next ps little tree groupLimit i i (omega (arith, entries)) (g .ended) (omega arith) (size-micro groupLimit ps v (omega (arith, group-size)))
 
-        at-u : position ps (entryAt ps j) ≡ j
-        at-u = position-of ps little tree j low
+      words-more : (shape over : ℕ) → shape ≡ shapeNumber groupLimit (walkRound (under ps v)) → over ≡ Option·getD (parent ps v) topMark → Words ps (i + 1) (at + 3) (set (set (set cells at i) (at + 1) shape) (at + 2) over)
+      unfolding groupWords
+      words-more shape over s o =
+          let old : List ℕ = replicate (3 * length ps) 0 in
+          let n : length old ≡ 3 * length ps = length-replicate {A = ℕ} (3 * length ps) 0 in
+          let l = laid-more over (omega (arith, gather-room)) (laid-more shape (omega (arith, gather-room)) (laid-more i (omega (arith, gather-room)) (g .words))) in
+          let words = flatMap (groupWords groupLimit ps) (rootsWithin groupLimit ps i) in
+          let q : flatMap (groupWords groupLimit ps) (rootsWithin groupLimit ps (i + 1)) ≡ ((words ++ i ∷ []) ++ shape ∷ []) ++ over ∷ [] =
+          ap (flatMap (groupWords groupLimit ps)) (keep-next (groupRoot groupLimit ps) (order ps) i inner starts)
+          ∙ rows-more (groupWords groupLimit ps) (rootsWithin groupLimit ps i) v
+          ∙ rw (at-v, ← s, ← o) (simp append-assoc) in
+          let z : (at + 1) + 1 ≡ at + 2 = omega arith in
+          let y : (at + 2) + 1 ≡ at + 3 = omega arith in
+          rw (q, ← y) (rw z at l)
 
-        over : Ancestor ps v (entryAt ps j)
-        over = interval ps little tree v (entryAt ps j) hv hu .1 (omega (arith, at-u, at-v), omega (arith, at-u, at-v))
+      words-hop : (at₁ : ℕ) (cells₁ : List ℕ) → Words ps (i + 1) at₁ cells₁ → Words ps (i + size ps v) at₁ cells₁
+      words-hop at₁ cells₁ k =
+          let z : i + size ps v ≡ (i + 1) + (size ps v - 1) = omega (arith, group-size, group-some) in
+          rw z (go (size ps v - 1) (omega (arith, group-size, group-some)))
+        where
+          go : (n : ℕ) → (i + 1) + n ≤ i + size ps v → Words ps ((i + 1) + n) at₁ cells₁
+          go zero b = let z : (i + 1) + zero ≡ i + 1 = omega arith in rw z k
+          go (suc n) b =
+              let z : (i + 1) + suc n ≡ ((i + 1) + n) + 1 = omega arith in
+              let low : (i + 1) + n < length ps = omega (arith, group-room, group-size, entries) in
+              let e = root-none ps little tree groupLimit i ((i + 1) + n) low (omega arith) (omega arith) starts (omega arith) in
+              rw (z, keep-same (groupRoot groupLimit ps) (order ps) ((i + 1) + n) (omega (arith, order-length ps little tree)) e) (go n (omega arith))
 
-        go : (t : Bool) → groupRoot groupLimit ps (entryAt ps j) ≡ t → groupRoot groupLimit ps (entryAt ps j) ≡ false
-        go false q = q
-        go true q =
-            let same : v ≡ entryAt ps j = one-root ps little tree groupLimit v (entryAt ps j) (entryAt ps j) e q over (ancestor-self ps little tree (entryAt ps j) hu) in
-            absurd (omega (arith, at-u, at-v, ap (position ps) same))
-
-    pub gather-hop : groupRoot groupLimit ps v ≡ true → (at₁ : ℕ) (cells₁ : List ℕ) → Gathered ps (i + 1) at₁ cells₁ → Gathered ps (i + getD sizes i 0) at₁ cells₁
-    gather-hop e at₁ cells₁ k =
-        let z : i + getD sizes i 0 ≡ (i + 1) + (size ps v - 1) = omega (arith, group-size, group-some) in
-        rw z (go (size ps v - 1) (omega (arith, group-size, group-some)))
-      where
-        go : (n : ℕ) → (i + 1) + n ≤ i + size ps v → Gathered ps ((i + 1) + n) at₁ cells₁
-        go zero b = let z : (i + 1) + zero ≡ i + 1 = omega arith in rw z k
-        go (suc n) b =
-            let z : (i + 1) + suc n ≡ ((i + 1) + n) + 1 = omega arith in
-            let in-order : (i + 1) + n < length (order ps) = omega (arith, family-room ps little tree v hv, at-v, order-length ps little tree) in
-            rw (z, keep-same (groupRoot groupLimit ps) (order ps) ((i + 1) + n) in-order (inside-none e ((i + 1) + n) (omega arith) (omega arith))) (go n (omega arith))
-
-    pub group-small : groupRoot groupLimit ps v ≡ true → getD sizes i 0 ≤ groupLimit
-    group-small e = omega (arith, group-size, micro-size groupLimit ps v (root-micro groupLimit ps v e))
+      pub gather-more : (shape over : ℕ) → shape ≡ shapeNumber groupLimit (walkRound (under ps v)) → over ≡ Option·getD (parent ps v) topMark
+          → Gathered ps (i + getD sizes i 0) (at + 3) (set (set (set cells at i) (at + 1) shape) (at + 2) over)
+      gather-more shape over s o =
+          rw group-size
+          (record { words = words-hop _ _ (words-more shape over s o); ended = ended-group ps little tree groupLimit i (omega (arith, group-room, group-size, entries)) starts (g .ended) })

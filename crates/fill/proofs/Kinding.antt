@@ -1,10 +1,10 @@
--- KIND by position: the roots of groups, the jump entries, and the words one position further. Assumes nothing.
+-- KIND by position: the groups, the jump entries, and the words one position further. Assumes nothing.
 use mathlib.Core.Path.{_≡_, refl, sym, ap, _∙_}
 use mathlib.Core.List.{List, [], _∷_, map}
-use mathlib.Core.Bool.{Bool, true, false, not, cond}
+use mathlib.Core.Bool.{Bool, true, false, cond}
 use mathlib.Core.Logic.{_⊎_, inl, inr}
-use mathlib.Core.Option.{Option, none, some, Option·elim, Option·some-injective}
-use Prim.Native.Nat.{ℕ, zero, suc, _+_, _*_, _-_, _≤_, _<_}
+use mathlib.Core.Option.{some}
+use Prim.Native.Nat.{ℕ, suc, _+_, _*_, _-_, _≤_, _<_}
 use native.Mathlib.Omega.{arith}
 use native.Mathlib.Numerals.{add-one}
 use native.Mathlib.Decide.{ℕ-discrete, decLt}
@@ -24,13 +24,14 @@ use Rattle.tree.proofs.Climbing.{parent-in, parent-some}
 use Rattle.tree.proofs.Forests.{child-of, of-child}
 use Rattle.tree.proofs.OneTree.{root-in}
 use Rattle.tree.proofs.Positions.{order-length, at-position, position-of, order-in}
-use Rattle.tree.proofs.Intervals.{ancestor-self, ancestor-trans, ancestor-parent, ancestor-first, interval, inside, family-room, parent-before, root-first, next-parent}
+use Rattle.tree.proofs.Intervals.{ancestor-self, ancestor-parent, ancestor-first, interval, inside, family-room, parent-before, root-first}
 use Rattle.table.specs.Groups.{micro, groupRoot, groupRoots, jumpNode, jumpNodes, kind}
 use Rattle.climbs.proofs.Jumps.{size-micro, size-macro, jump-parts, jump-is, jump-not, macro-up, micro-down, macro-kind}
-use Rattle.climbs.proofs.Groups.{rootsWithin, Grouped, grouped, one-root, root-micro, no-root}
-use Rattle.fill.specs.Arrays.{abovePosition, Families}
+use Rattle.climbs.proofs.Groups.{rootsWithin, Grouped, grouped-under, root-micro}
+use Rattle.fill.specs.Arrays.{Families}
 use Rattle.fill.proofs.Spreading.{Ran, ran-none, ran-more, ran-map}
-use Rattle.fill.proofs.Laddering.{Over, array-length, array-word, over-at}
+use Rattle.fill.proofs.Laddering.{array-length, array-word}
+use Rattle.fill.proofs.Rooting.{Ended, macro-none, root-next, root-none, in-family, ended-same, ended-root}
 
 -- how many of a list's first entries pass a test, one entry further
 keep-one : (test : ℕ → Bool) (x : ℕ) → length (keep test (x ∷ [])) ≡ one (test x)
@@ -116,27 +117,6 @@ module _ (ps : List ℕ) (small : length ps ≤ topMark) (tree : Tree ps) (L : �
       go true j = first (ancestor-first ps small tree (on m) (on i) (interval ps small tree (on m) (on i) hm hi .1 (omega (arith, at-m, at-i), omega (arith, at-m, at-i)))) j
       go false j = refl
 
-  -- the group of a micro entry that is no root is that of the entry before it in preorder
-  abbrev Last : ℕ → ℕ → Type 0
-  Last i root = (k : ℕ) → suc k ≡ i → (r g l : ℕ) → Grouped L ps (on k) r g l → root ≡ position ps r
-
-  last-root : (i root : ℕ) → i < length ps → Last i root → groupRoot L ps (on i) ≡ false → (r g l : ℕ) → Grouped L ps (on i) r g l → root ≡ position ps r
-  last-root i root h last e r g l m = go (ancestor-first ps small tree r (on i) (m .above))
-    where
-      at : (j : ℕ) → i ≡ j → (p : ℕ) → parent ps (on i) ≡ some p → Ancestor ps r p → root ≡ position ps r
-      at zero z p q a = absurd (omega (arith, parent-before ps small tree (on i) p q, position-of ps small tree i h))
-      at (suc k) z p q a =
-          let (o, f, b) = next-parent ps small tree k (omega arith) in
-          let same : o ≡ p = Option·some-injective o p (sym f ∙ ap (λ j. parent ps (on j)) (sym z) ∙ q) in
-          let c = ancestor-trans ps small tree r p (on k) a (rw same at b) in
-          let n = micro-down ps small tree L r (on k) c (root-micro L ps r (m .root)) in
-          let (s, y, x, d) = grouped ps small tree L (on k) (order-in ps small tree k (omega arith)) n in
-          last k (sym z) s y x d ∙ ap (position ps) (one-root ps small tree L s r (on k) (d .root) (m .root) (d .above) c)
-
-      go : (on i ≡ r) ⊎ ((p : ℕ) × (parent ps (on i) ≡ some p) × Ancestor ps r p) → root ≡ position ps r
-      go (inl q) = clash (sym e ∙ ap (groupRoot L ps) q ∙ m .root)
-      go (inr (p, q, a)) = at i refl p q a
-
 -- the last macro position before i
 pub record Lasting (ps : List ℕ) (L i last : ℕ) : Type 0 where
   pub before : last < i
@@ -144,32 +124,45 @@ pub record Lasting (ps : List ℕ) (L i last : ℕ) : Type 0 where
   pub quiet : (k : ℕ) → last < k → k < i → micro L ps (getD (order ps) k 0) ≡ true
   pub run : length (jumpsWithin L ps i) ≡ length (jumpsWithin L ps (suc last))
 
+-- a group starts at `root` and ends at `end`
+pub record Group (ps : List ℕ) (L root end : ℕ) : Type 0 where
+  pub starts : groupRoot L ps (getD (order ps) root 0) ≡ true
+  pub ends : end ≡ root + size ps (getD (order ps) root 0)
+
+-- position i is in that group, the last up to there
+pub record Opened (ps : List ℕ) (L i groups root end : ℕ) : Type 0 where
+  pub group : Group ps L root end
+  pub low : root ≤ i
+  pub high : i < end
+  pub groups-are : groups ≡ length (rootsWithin L ps (i + 1))
+  pub ended : Ended L ps (i + 1) end
+
 -- KIND of the first i positions, with the groups and with the jump entries before the last macro position
-pub record Kinding (ps : List ℕ) (L : ℕ) (old : List ℕ) (i groups jumps root last : ℕ) (cells : List ℕ) : Type 0 where
+pub record Kinding (ps : List ℕ) (L : ℕ) (old : List ℕ) (i groups jumps root end last : ℕ) (cells : List ℕ) : Type 0 where
   pub groups-are : groups ≡ length (rootsWithin L ps i)
   pub jumps-are : jumps ≡ length (jumpsWithin L ps last)
-  pub root-in : root ≤ i
   pub last-in : last ≤ i
-  pub rooted : (k : ℕ) → suc k ≡ i → (r g l : ℕ) → Grouped L ps (getD (order ps) k 0) r g l → root ≡ position ps r
+  pub ended : Ended L ps i end
+  pub reaching : i < end → (root < i) × Group ps L root end
   pub no-macro : micro L ps (getD (order ps) 0 0) ≡ true → (last ≡ 0) × (length (jumpsWithin L ps i) ≡ 0)
   pub lasting : micro L ps (getD (order ps) 0 0) ≡ false → 0 < i → Lasting ps L i last
   pub kinds : Ran (λ k. kind L ps (getD (order ps) k 0)) old i cells
 
 module _ (ps : List ℕ) (small : length ps ≤ topMark) (tree : Tree ps) (L : ℕ) (old : List ℕ) (room : length old ≡ length ps) where
-  pub kind-none : Kinding ps L old 0 0 0 0 0 old
+  pub kind-none : Kinding ps L old 0 0 0 0 0 0 old
   unfolding keep
   kind-none = record {
     groups-are = refl;
     jumps-are = refl;
-    root-in = omega arith;
     last-in = omega arith;
-    rooted = λ k e. absurd (omega arith);
+    ended = λ k b. absurd (omega arith);
+    reaching = λ b. absurd (omega arith);
     no-macro = λ e. (refl, refl);
     lasting = λ e h. absurd (omega arith);
     kinds = ran-none _ old;
   }
 
-  module _ (i groups jumps root last : ℕ) (cells : List ℕ) (h : i < length ps) (s : Kinding ps L old i groups jumps root last cells) where
+  module _ {i groups jumps root end last : ℕ} {cells : List ℕ} (h : i < length ps) (s : Kinding ps L old i groups jumps root end last cells) where
     abbrev v : ℕ
     v = getD (order ps) i 0
 
@@ -181,12 +174,6 @@ module _ (ps : List ℕ) (small : length ps ≤ topMark) (tree : Tree ps) (L : �
 
     ho : i < length (order ps)
     ho = omega (arith, order-length ps small tree)
-
-    pub groups-small : groups ≤ i
-    groups-small = omega (arith, s .groups-are, count-small (groupRoot L ps) (order ps) i)
-
-    pub jumps-small : jumps ≤ i
-    jumps-small = omega (arith, s .jumps-are, count-small (jumpNode L ps) (order ps) last, s .last-in)
 
     -- a micro entry changes no jump entries
     module _ (m : micro L ps v ≡ true) where
@@ -207,55 +194,64 @@ module _ (ps : List ℕ) (small : length ps ≤ topMark) (tree : Tree ps) (L : �
             run = rw (add-one i) (same-jumps ∙ o .run);
           }
 
-    -- a root
-    module _ (e : groupRoot L ps v ≡ true) where
-      root-kind : kind L ps v ≡ microMark + 8 * groups
+    -- a micro entry past the last group starts the next, and one before its end is in it
+    pub open-next : micro L ps v ≡ true → end ≤ i → (x : ℕ) → x ≡ i + size ps v → Opened ps L i (groups + 1) i x
+    open-next m b x q =
+        let e = root-next ps small tree L i end h (s .ended) b m in
+        record {
+          group = record { starts = e; ends = q };
+          low = omega arith;
+          high = omega (arith, interval ps small tree v v hv hv .0 (ancestor-self ps small tree v hv) .1);
+          groups-are = rw (add-one i, count-more (groupRoot L ps) (order ps) i ho, e) (omega (arith, s .groups-are));
+          ended = rw q (ended-root ps small tree L i end b (s .ended));
+        }
+
+    pub open-same : i < end → Opened ps L i groups root end
+    open-same b =
+        let (low, o) = s .reaching b in
+        let e = root-none ps small tree L root i h (omega arith) (omega (arith, o .ends)) (o .starts) low in
+        record {
+          group = o;
+          low = omega arith;
+          high = b;
+          groups-are = rw (add-one i, count-more (groupRoot L ps) (order ps) i ho, e) (omega (arith, s .groups-are));
+          ended = ended-same ps small tree L i end e (s .ended);
+        }
+
+    -- a micro entry, in a group
+    module _ {groups₁ root₁ end₁ : ℕ} (o : Opened ps L i groups₁ root₁ end₁) where
+      abbrev r : ℕ
+      r = getD (order ps) root₁ 0
+
+      below : Ancestor ps r v
+      below = in-family ps small tree L root₁ i h (o .low) (omega (arith, o .high, o .group .ends))
+
+      member : Grouped L ps v r (length (rootsWithin L ps (position ps r))) (i - root₁)
+      member = grouped-under ps small tree L r v (i - root₁) (o .group .starts) below (omega (arith, at-v, o .low, position-of ps small tree root₁ (omega (arith, o .low))))
+
+      numbered : suc (length (rootsWithin L ps (position ps r))) ≡ groups₁
+      numbered = member .upto ∙ ap (λ j. length (rootsWithin L ps (suc j))) at-v ∙ rw (← add-one i) (sym (o .groups-are))
+
+      pub open-some : 1 ≤ groups₁
+      open-some = omega (arith, numbered)
+
+      pub open-few : groups₁ ≤ i + 1
+      open-few = omega (arith, o .groups-are, count-small (groupRoot L ps) (order ps) (i + 1))
+
+      inner-micro : micro L ps v ≡ true
+      inner-micro = micro-down ps small tree L r v below (root-micro L ps r (o .group .starts))
+
+      pub kind-micro : (x : ℕ) → x ≡ microMark + 8 * (groups₁ - 1) + (i - root₁) → Kinding ps L old (i + 1) groups₁ jumps root₁ end₁ last (set cells i x)
       unfolding kind
-      root-kind =
-          let m = root-micro L ps v e in
-          let (r, g, l, d) = grouped ps small tree L v hv m in
-          let q : r ≡ v = one-root ps small tree L r v v (d .root) e (d .above) (ancestor-self ps small tree v hv) in
-          let z : position ps r ≡ i = ap (position ps) q ∙ at-v in
-          rw m (omega (arith, d .kinded, d .placed, z, at-v, d .before ∙ ap (λ j. length (rootsWithin L ps j)) z, s .groups-are))
-
-      pub kind-root : (x : ℕ) → x ≡ microMark + 8 * groups → Kinding ps L old (i + 1) (groups + 1) jumps i last (set cells i x)
-      kind-root x q = record {
-        groups-are = rw (add-one i, count-more (groupRoot L ps) (order ps) i ho, e) (omega (arith, s .groups-are));
+      kind-micro x q = record {
+        groups-are = o .groups-are;
         jumps-are = s .jumps-are;
-        root-in = omega arith;
         last-in = omega (arith, s .last-in);
-        rooted = λ k z r g l d.
-            let y : k ≡ i = omega arith in
-            let c = rw y at d in
-            sym (ap (position ps) (one-root ps small tree L r v v (c .root) e (c .above) (ancestor-self ps small tree v hv)) ∙ at-v);
-        no-macro = same-none (root-micro L ps v e);
-        lasting = λ f b. same-last (root-micro L ps v e) f (decLt 0 i);
-        kinds = ran-more _ old i cells x (omega arith) (q ∙ sym root-kind) (s .kinds);
-      }
-
-    -- another micro entry
-    module _ (e : groupRoot L ps v ≡ false) (m : micro L ps v ≡ true) where
-      same-groups : length (rootsWithin L ps (suc i)) ≡ groups
-      same-groups = count-more (groupRoot L ps) (order ps) i ho ∙ rw e (omega (arith, s .groups-are))
-
-      pub inner-kind : (1 ≤ groups) × (root ≤ i) × (kind L ps v ≡ microMark + 8 * (groups - 1) + (i - root))
-      unfolding kind
-      inner-kind =
-          let (r, g, l, d) = grouped ps small tree L v hv m in
-          let q = last-root ps small tree L i root h (s .rooted) e r g l d in
-          let z : suc g ≡ groups = d .upto ∙ ap (λ j. length (rootsWithin L ps (suc j))) at-v ∙ same-groups in
-          (omega arith, s .root-in, rw m (omega (arith, d .kinded, d .placed, at-v)))
-
-      pub kind-inner : (x : ℕ) → x ≡ microMark + 8 * (groups - 1) + (i - root) → Kinding ps L old (i + 1) groups jumps root last (set cells i x)
-      kind-inner x q = record {
-        groups-are = rw (add-one i) (sym same-groups);
-        jumps-are = s .jumps-are;
-        root-in = omega (arith, s .root-in);
-        last-in = omega (arith, s .last-in);
-        rooted = λ k z r g l d. let y : k ≡ i = omega arith in last-root ps small tree L i root h (s .rooted) e r g l (rw y at d);
-        no-macro = same-none m;
-        lasting = λ f b. same-last m f (decLt 0 i);
-        kinds = ran-more _ old i cells x (omega arith) (q ∙ sym (inner-kind .2)) (s .kinds);
+        ended = o .ended;
+        reaching = λ b. (omega (arith, o .low), o .group);
+        no-macro = same-none inner-micro;
+        lasting = λ f b. same-last inner-micro f (decLt 0 i);
+        kinds = ran-more _ old i cells x (omega arith) (q ∙ sym (rw inner-micro (omega (arith, member .kinded, numbered)))) (s .kinds);
       }
 
     -- a macro entry
@@ -263,24 +259,14 @@ module _ (ps : List ℕ) (small : length ps ≤ topMark) (tree : Tree ps) (L : �
       top-macro : micro L ps (getD (order ps) 0 0) ≡ false
       top-macro = macro-up ps small tree L (getD (order ps) 0 0) v (root-above-all ps small tree L v hv) hv m
 
-      no-group : groupRoot L ps v ≡ false
-      no-group = go (groupRoot L ps v) refl
-        where
-          go : (b : Bool) → groupRoot L ps v ≡ b → b ≡ false
-          go true e = clash (sym m ∙ root-micro L ps v e)
-          go false e = refl
-
-      kind-macro : (x : ℕ) → x ≡ length (jumpsWithin L ps i) → Kinding ps L old (i + 1) groups x root i (set cells i x)
+      pub kind-macro : (x : ℕ) → x ≡ length (jumpsWithin L ps i) → Kinding ps L old (i + 1) groups x root end i (set cells i x)
       unfolding kind
       kind-macro x q = record {
-        groups-are = rw (add-one i, count-more (groupRoot L ps) (order ps) i ho, no-group) (omega (arith, s .groups-are));
+        groups-are = rw (add-one i, count-more (groupRoot L ps) (order ps) i ho, macro-none L ps v m) (omega (arith, s .groups-are));
         jumps-are = q;
-        root-in = omega (arith, s .root-in);
         last-in = omega arith;
-        rooted = λ k z r g l d.
-            let y : k ≡ i = omega arith in
-            let c = rw y at d in
-            clash (sym m ∙ micro-down ps small tree L r v (c .above) (root-micro L ps r (c .root)));
+        ended = ended-same ps small tree L i end (macro-none L ps v m) (s .ended);
+        reaching = λ b. let (low, o) = s .reaching (omega arith) in (omega arith, o);
         no-macro = λ f. clash (sym top-macro ∙ f);
         lasting = λ f b. record { before = omega arith; macro = m; quiet = λ k a c. absurd (omega arith); run = rw (add-one i) };
         kinds = ran-more _ old i cells x (omega arith) (q ∙ sym (rw m (macro-kind ps small tree L v hv m ∙ ap (λ j. length (jumpsWithin L ps j)) at-v))) (s .kinds);
@@ -290,8 +276,8 @@ module _ (ps : List ℕ) (small : length ps ≤ topMark) (tree : Tree ps) (L : �
       before-last o = o .run ∙ count-more (jumpNode L ps) (order ps) last (omega (arith, o .before, ho)) ∙ omega (arith, s .jumps-are)
 
       -- past the family of the last one, or in it
-      pub kind-past : last + size ps (getD (order ps) last 0) ≤ i → (x : ℕ) → x ≡ jumps + 1 → Kinding ps L old (i + 1) groups x root i (set cells i x)
-      kind-past b x q = kind-macro x (q ∙ go (decLt 0 i))
+      pub jumps-past : last + size ps (getD (order ps) last 0) ≤ i → jumps + 1 ≡ length (jumpsWithin L ps i)
+      jumps-past b = go (decLt 0 i)
         where
           go : Dec (0 < i) → jumps + 1 ≡ length (jumpsWithin L ps i)
           go (no n) = absurd (omega (arith, s .last-in))
@@ -299,8 +285,8 @@ module _ (ps : List ℕ) (small : length ps ≤ topMark) (tree : Tree ps) (L : �
               let o = s .lasting top-macro n in
               sym (before-last o ∙ rw (jump-alone ps small tree L last i (omega (arith, o .before)) b (o .macro) (o .quiet)))
 
-      pub kind-within : i < last + size ps (getD (order ps) last 0) → (x : ℕ) → x ≡ jumps → Kinding ps L old (i + 1) groups x root i (set cells i x)
-      kind-within b x q = kind-macro x (q ∙ go (decLt 0 i))
+      pub jumps-within : i < last + size ps (getD (order ps) last 0) → jumps ≡ length (jumpsWithin L ps i)
+      jumps-within b = go (decLt 0 i)
         where
           go : Dec (0 < i) → jumps ≡ length (jumpsWithin L ps i)
           go (no n) = let z : last ≡ i = omega (arith, s .last-in) in s .jumps-are ∙ ap (λ j. length (jumpsWithin L ps j)) z
@@ -309,7 +295,7 @@ module _ (ps : List ℕ) (small : length ps ≤ topMark) (tree : Tree ps) (L : �
               sym (before-last o ∙ rw (jump-left ps small tree L last i (o .before) h b m (o .quiet)) (omega arith))
 
   -- at the end
-  module _ (i groups jumps root last : ℕ) (cells : List ℕ) (is : i ≡ length ps) (s : Kinding ps L old i groups jumps root last cells) where
+  module _ {i groups jumps root end last : ℕ} {cells : List ℕ} (is : i ≡ length ps) (s : Kinding ps L old i groups jumps root end last cells) where
     whole : take i (order ps) ≡ order ps
     whole = take-all i (order ps) (omega (arith, order-length ps small tree))
 
@@ -335,13 +321,10 @@ module _ (ps : List ℕ) (small : length ps ≤ topMark) (tree : Tree ps) (L : �
     pub kinds-end : length ps ≤ mostEntries → cells ≡ map (kind L ps) (order ps)
     kinds-end few = ran-map ps few tree (kind L ps) old i cells room (omega arith) (s .kinds)
 
--- the same from SIZE and ABOVE
-module _ (ps sizes above : List ℕ) (f : Families ps sizes above) where
+-- the same from SIZE
+module _ (ps sizes : List ℕ) (f : Families ps sizes) where
   pub sizes-length : length sizes ≡ length ps
   sizes-length = array-length ps (f .few) (f .tree) (size ps) sizes (f .sizes-are)
-
-  pub uppers-length : length above ≡ length ps
-  uppers-length = array-length ps (f .few) (f .tree) (abovePosition ps) above (f .aboves)
 
   pub size-word : (i : ℕ) → i < length sizes → getD sizes i 0 ≡ size ps (getD (order ps) i 0)
   size-word i h = array-word ps (f .few) (f .tree) (size ps) sizes (f .sizes-are) i (omega (arith, sizes-length))
@@ -359,41 +342,3 @@ module _ (ps sizes above : List ℕ) (f : Families ps sizes above) where
 
   pub word-macro : (i : ℕ) → i < length sizes → groupLimit < getD sizes i 0 → micro groupLimit ps (getD (order ps) i 0) ≡ false
   word-macro i h b = size-macro groupLimit ps (getD (order ps) i 0) (omega (arith, size-word i h))
-
-  -- whether the root of a group stands at a position
-  pub root-large : (i : ℕ) → i < length sizes → groupLimit < getD sizes i 0 → false ≡ groupRoot groupLimit ps (getD (order ps) i 0)
-  unfolding groupRoot
-  root-large i h b = rw (word-macro i h b)
-
-  pub root-start : 0 < length sizes → getD sizes 0 0 ≤ groupLimit → true ≡ groupRoot groupLimit ps (getD (order ps) 0 0)
-  unfolding groupRoot Option·elim
-  root-start h b = rw (word-micro 0 h b) (go (parent ps (getD (order ps) 0 0)) refl)
-    where
-      few : length ps ≤ mostEntries
-      few = f .few
-
-      go : (o : Option ℕ) → parent ps (getD (order ps) 0 0) ≡ o → true ≡ Option·elim o true (λ p. not (micro groupLimit ps p))
-      go none e = refl
-      go (some p) e = absurd (omega (arith, parent-before ps (omega (arith, few)) (f .tree) (getD (order ps) 0 0) p e, position-of ps (omega (arith, few)) (f .tree) 0 (omega (arith, sizes-length))))
-
-  module _ (i : ℕ) (b : 0 < i) (h : i < length sizes) where
-    upper : Over ps (getD (order ps) i 0)
-    upper = over-at ps (f .few) (f .tree) i b (omega (arith, sizes-length))
-
-    upper-word : getD above i 0 ≡ position ps (upper .over)
-    upper-word = array-word ps (f .few) (f .tree) (abovePosition ps) above (f .aboves) i (omega (arith, sizes-length)) ∙ upper .word
-
-    pub upper-less : getD above i 0 < i
-    upper-less = let few = f .few in omega (arith, upper-word, upper .earlier, position-of ps (omega arith) (f .tree) i (omega (arith, sizes-length)))
-
-    upper-size : getD sizes (getD above i 0) 0 ≡ size ps (upper .over)
-    upper-size =
-        let few = f .few in
-        size-word (getD above i 0) (omega (arith, upper-less)) ∙ ap (size ps) (ap (λ j. getD (order ps) j 0) upper-word ∙ at-position ps (omega arith) (f .tree) (upper .over) (upper .inside))
-
-    pub root-under : getD sizes (getD above i 0) 0 ≤ groupLimit → false ≡ groupRoot groupLimit ps (getD (order ps) i 0)
-    root-under s = sym (no-root groupLimit ps (getD (order ps) i 0) (upper .over) (upper .parent-is) (size-micro groupLimit ps (upper .over) (omega (arith, upper-size))))
-
-    pub root-over : getD sizes i 0 ≤ groupLimit → groupLimit < getD sizes (getD above i 0) 0 → true ≡ groupRoot groupLimit ps (getD (order ps) i 0)
-    unfolding groupRoot Option·elim
-    root-over m s = rw (word-micro i h m, upper .parent-is, size-macro groupLimit ps (upper .over) (omega (arith, upper-size)))

@@ -1,6 +1,7 @@
 -- How the passes over the preorder fill their sections.
 pub mod Spreading
 pub mod Laddering
+pub mod Rooting
 pub mod Kinding
 pub mod Rising
 pub mod Gathering

@@ -73,12 +73,11 @@ pub record Laid (ps : List ℕ) (paths words : ℕ) (places : List ℕ) : Type 0
   pub words-are : words ≡ length (flatten (ladders ps))
   pub places-are : places ≡ map (ladPos ps) (order ps)
 
--- SIZE and ABOVE of a list that forms one tree
-pub record Families (ps sizes above : List ℕ) : Type 0 where
+-- SIZE of a list that forms one tree
+pub record Families (ps sizes : List ℕ) : Type 0 where
   pub few : length ps ≤ mostEntries
   pub tree : Tree ps
   pub sizes-are : sizes ≡ map (size ps) (order ps)
-  pub aboves : above ≡ map (abovePosition ps) (order ps)
 
 -- KIND by position, with the numbers of groups and of jump entries
 pub record Kinded (ps : List ℕ) (groups jumps : ℕ) (kinds : List ℕ) : Type 0 where
@@ -112,9 +111,10 @@ Laddered ps cells = cells ≡ ladderCells ps
 
 -- what GROUPS is laid from
 pub record Members (ps ord deep sizes above : List ℕ) : Type 0 where
-  pub families : Families ps sizes above
+  pub families : Families ps sizes
   pub order-is : ord ≡ order ps
   pub depths : deep ≡ map (depth ps) (order ps)
+  pub aboves : above ≡ map (abovePosition ps) (order ps)
 
 -- GROUPS
 unfoldable pub Grouped : List ℕ → List ℕ → Type 0

@@ -6,7 +6,6 @@ ghost use Prim.Native.Nat.{ℕ, _*_, _<_};
 ghost use lib.ListN.{length};
 ghost use Rattle.tree.specs.Parents.{topMark, parent};
 ghost use Rattle.fill.specs.Arrays.{entryAt, Climbs, Members, Grouped};
-use crate::kinds::group_root;
 use crate::spread::set_all;
 use base::Position;
 
@@ -22,7 +21,7 @@ fn parent_word(order: &[u32], above: &[u32], at: Position) -> u32
     order[over.0 as usize]
 }
 
-// GROUPS: each group's position, shape and parent, in preorder, and zeros behind. Past a root the next can stand where the group ends.
+// GROUPS: each group's position, shape and parent, in preorder, and zeros behind. A position of size 5 or less, past the groups before it, starts the next.
 pub fn groups(order: &[u32], depth: &[u32], size: &[u32], above: &[u32], cells: &mut [u32])
     requires { ⌜ ((ps : List ℕ) × Members ps (now order) (now depth) (now size) (now above)) × (length (now cells) ≡ 3 * length (now order)) ⌝ }
     ensures { λ _. ⌜ ((ps : List ℕ) → Members ps (now (order .entry)) (now (depth .entry)) (now (size .entry)) (now (above .entry)) → Grouped ps (now (cells .exit))) ⌝ }
@@ -32,8 +31,8 @@ pub fn groups(order: &[u32], depth: &[u32], size: &[u32], above: &[u32], cells: 
     let mut next = Position(0);
     while (next.0 as usize) < order.len() {
         let at = next;
-        if group_root(size, above, at) {
-            let entries = size[at.0 as usize];
+        let entries = size[at.0 as usize];
+        if entries <= 5 {
             cells[cell] = at.0;
             cells[cell + 1] = shapes::number(depth, at, entries as usize);
             cells[cell + 2] = parent_word(order, above, at);

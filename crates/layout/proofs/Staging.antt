@@ -115,12 +115,11 @@ module _ (ps space : List ℕ) (p : Placing ps space) where
   }
 
 module _ (ps space : List ℕ) (m : Measured ps space) where
-  pub families-of : Families ps (midOf (length ps * 2) (length ps * 3 - length ps * 2) space) (midOf (length ps * 3) (length ps * 4 - length ps * 3) space)
+  pub families-of : Families ps (midOf (length ps * 2) (length ps * 3 - length ps * 2) space)
   families-of = record {
     few = m .walked .few;
     tree = m .walked .tree;
     sizes-are = lent (length ps * 2) (length ps * 3) (length ps) space _ (omega arith) (m .sizes);
-    aboves = lent (length ps * 3) (length ps * 4) (length ps) space _ (omega arith) (m .aboves);
   }
 
   pub members-of : Members ps (midOf 0 (length ps - 0) space) (midOf (length ps) (length ps * 2 - length ps) space) (midOf (length ps * 2) (length ps * 3 - length ps * 2) space) (midOf (length ps * 3) (length ps * 4 - length ps * 3) space)
@@ -128,4 +127,5 @@ module _ (ps space : List ℕ) (m : Measured ps space) where
     families = families-of;
     order-is = lent 0 (length ps) (length ps) space _ (omega arith) (m .walked .orders);
     depths = lent (length ps) (length ps * 2) (length ps) space _ (omega arith) (m .walked .depths);
+    aboves = lent (length ps * 3) (length ps * 4) (length ps) space _ (omega arith) (m .aboves);
   }

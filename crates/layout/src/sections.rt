@@ -27,7 +27,7 @@ fn kind_section(parents: &[u32], table: &mut [u32], space: &mut [u32]) -> Counts
     let n = parents.len();
     let a = 4 + n;
     let b = a + n;
-    let counts = fill::kinds::kinds(&space[n * 2..n * 3], &space[n * 3..n * 4], &mut table[a..b]);
+    let counts = fill::kinds::kinds(&space[n * 2..n * 3], &mut table[a..b]);
     turn(parents, table, a, space, n * 4);
     counts
 }

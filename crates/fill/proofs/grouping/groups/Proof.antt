@@ -1,4 +1,5 @@
--- `grouping::groups` meets its contract: the words of the groups among the positions before the next are laid end to end, with zeros behind. Assumes nothing.
+-- `grouping::groups` meets its contract: the words of the groups among the positions before the next, which end there or before, are laid end to end, with zeros behind.
+-- Assumes nothing.
 use mathlib.Core.Path.{_≡_, sym, ap, _∙_}
 use mathlib.Core.List.{List}
 use Prim.Native.Nat.{ℕ, _+_, _*_, _-_, _≤_, _<_}
@@ -6,7 +7,7 @@ use native.Mathlib.Omega.{arith}
 use borrow.Author.Needs.{needs}
 use lib.ListN.{length, getD, set, length-set, length-replicate}
 use Rattle.fill.specs.Arrays.{Members}
-use Rattle.fill.proofs.Gathering.{Gathered, climbs-from, entries, sizes-many, gather-none, gather-end, gather-same, gather-more, gather-hop, group-depths, group-size, group-small, group-room, group-some}
+use Rattle.fill.proofs.Gathering.{Gathered, climbs-from, entries, sizes-many, gather-none, gather-end, gather-same, gather-more, group-depths, group-size, group-room, group-some}
 use Rattle.fill.proofs.grouping.groups.Statement.{statement}
 use Rattle.fill.proofs.grouping.groups.Tie as tie
 
@@ -41,47 +42,42 @@ loop-holds c =
       λ ps m. gather-none ps (s .args .order .now) (s .args .depth .now) (s .args .size .now) (s .args .above .now) m (length (s .args .cells .now)) _ (s .pre .1) wiped,
     )
 
-group-root-requires : tie.Need-group-root-requires Inv-loop μ-loop
-group-root-requires c κs =
-    let s = c .before .before .before .before .before .before .before .before .before .before .before .before in
-    let (ps, m) = s .pre .0 in
-    ((ps, m .families), omega arith)
-
 cast-number : tie.Need-cast-number Inv-loop μ-loop
-cast-number c = omega (arith, c .shared-slice-known5 .given (c .before .before .before .before .before .before .loop .next .0))
+cast-number c = omega (arith, c .before .shared-slice-known5 .given (c .before .before .before .before .before .loop .next .0))
 
 slice-write-cells-2 : tie.Need-slice-write-cells-2 Inv-loop μ-loop
 slice-write-cells-2 c =
-    let l = c .before .before .before .before .before .before .before .loop in
+    let l = c .before .before .before .before .before .before .loop in
     omega (arith, length-set (l .cells) (l .cell) (l .next .0))
 
 slice-write-cells-3 : tie.Need-slice-write-cells-3 Inv-loop μ-loop
 slice-write-cells-3 c =
-    let l = c .before .before .before .before .before .before .before .before .loop in
+    let l = c .before .before .before .before .before .before .before .loop in
     omega (arith, length-set (set (l .cells) (l .cell) (l .next .0)) (l .cell + 1) (c .before .number .result), length-set (l .cells) (l .cell) (l .next .0))
 
 parent-word-requires : tie.Need-parent-word-requires Inv-loop μ-loop
 parent-word-requires c κs =
-    let s = c .before .before .before .before .before .before .before .before .before .before .before .before .before .before .before .before .before in
+    let s = c .before .before .before .before .before .before .before .before .before .before .before .before .before .before .before .before in
     let (ps, m) = s .pre .0 in
     ((ps, climbs-from ps (s .args .order .now) (s .args .depth .now) (s .args .size .now) (s .args .above .now) m), omega arith)
 
 -- the group ends within the order, past its root
-bounds : (c : tie.After-struct-known3 Inv-loop μ-loop) → (c .before .before .before .before .before .before .before .before .before .loop .next .0 + getD (c .before .before .before .before .before .before .before .before .before .before .before .before .before .before .before .before .before .before .before .args .size .now) (c .before .before .before .before .before .before .before .before .before .loop .next .0) 0 ≤ length (c .before .before .before .before .before .before .before .before .before .before .before .before .before .before .before .before .before .before .before .args .order .now)) × (0 < getD (c .before .before .before .before .before .before .before .before .before .before .before .before .before .before .before .before .before .before .before .args .size .now) (c .before .before .before .before .before .before .before .before .before .loop .next .0) 0)
+bounds : (c : tie.After-struct-known3 Inv-loop μ-loop) → (c .before .before .before .before .before .before .before .before .loop .next .0 + getD (c .before .before .before .before .before .before .before .before .before .before .before .before .before .before .before .before .before .before .args .size .now) (c .before .before .before .before .before .before .before .before .loop .next .0) 0 ≤ length (c .before .before .before .before .before .before .before .before .before .before .before .before .before .before .before .before .before .before .args .order .now)) × (0 < getD (c .before .before .before .before .before .before .before .before .before .before .before .before .before .before .before .before .before .before .args .size .now) (c .before .before .before .before .before .before .before .before .loop .next .0) 0)
 bounds c =
-    let l = c .before .before .before .before .before .before .before .before .before .loop in
-    let s = c .before .before .before .before .before .before .before .before .before .before .before .before .before .before .before .before .before .before .before in
+    let l = c .before .before .before .before .before .before .before .before .loop in
+    let s = c .before .before .before .before .before .before .before .before .before .before .before .before .before .before .before .before .before .before in
     let (ps, m) = s .pre .0 in
-    let here = c .before .before .before .before .before .before .before .if1 .taken in
+    let here = c .before .before .before .before .before .before .if1 .taken in
     (group-room ps (s .args .order .now) (s .args .depth .now) (s .args .size .now) (s .args .above .now) m (l .next .0) (l .cell) (l .cells) here (l .inv .2 ps m), group-some ps (s .args .order .now) (s .args .depth .now) (s .args .size .now) (s .args .above .now) m (l .next .0) (l .cell) (l .cells) here (l .inv .2 ps m))
 
 loop-again : tie.Need-loop-again Inv-loop μ-loop
 loop-again c =
     let n = c .before .before .number in
     let p = c .before .parent-word in
-    let l = c .before .before .before .before .before .before .before .before .before .loop in
-    let s = c .before .before .before .before .before .before .before .before .before .before .before .before .before .before .before .before .before .before .before in
-    let here = c .before .before .before .before .before .before .before .if1 .taken in (
+    let l = c .before .before .before .before .before .before .before .before .loop in
+    let s = c .before .before .before .before .before .before .before .before .before .before .before .before .before .before .before .before .before .before in
+    let here = c .before .before .before .before .before .before .if1 .taken in
+    let few = c .before .before .before .if2 .taken in (
       bounds c .0,
       record {
         few = l .inv .1 .few;
@@ -90,22 +86,19 @@ loop-again c =
         used = omega (arith, l .inv .1 .used, bounds c .1);
       },
       λ ps m.
-          let e = sym (c .before .before .before .before .before .before .group-root .ensures ps (m .families)) ∙ c .before .before .before .before .before .if2 .taken in
           let g = l .inv .2 ps m in
           let k = group-size ps (s .args .order .now) (s .args .depth .now) (s .args .size .now) (s .args .above .now) m (l .next .0) (l .cell) (l .cells) here g in
           let q = group-depths ps (s .args .order .now) (s .args .depth .now) (s .args .size .now) (s .args .above .now) m (l .next .0) (l .cell) (l .cells) here g in
-          let b = group-small ps (s .args .order .now) (s .args .depth .now) (s .args .size .now) (s .args .above .now) m (l .next .0) (l .cell) (l .cells) here g e in
-          gather-hop ps (s .args .order .now) (s .args .depth .now) (s .args .size .now) (s .args .above .now) m (l .next .0) (l .cell) (l .cells) here g e _ _
-          (gather-more ps (s .args .order .now) (s .args .depth .now) (s .args .size .now) (s .args .above .now) m (l .next .0) (l .cell) (l .cells) here g e (n .result) (p .result) (n .ensures .0 _ _ _ q k b) (p .ensures ps (climbs-from ps (s .args .order .now) (s .args .depth .now) (s .args .size .now) (s .args .above .now) m))),
+          gather-more ps (s .args .order .now) (s .args .depth .now) (s .args .size .now) (s .args .above .now) m (l .next .0) (l .cell) (l .cells) here g few (n .result) (p .result) (n .ensures .0 _ _ _ q k few) (p .ensures ps (climbs-from ps (s .args .order .now) (s .args .depth .now) (s .args .size .now) (s .args .above .now) m)),
     )
 
 loop-again-2 : tie.Need-loop-again-2 Inv-loop μ-loop
 loop-again-2 c =
-    let l = c .before .before .before .before .before .loop in
-    let s = c .before .before .before .before .before .before .before .before .before .before .before .before .before .before .before in (
+    let l = c .before .before .before .before .before .before .loop in
+    let s = c .before .before .before .before .before .before .before .before .before .before .before .before .before .before .before .before in (
       omega arith,
       record { few = l .inv .1 .few; sizes = l .inv .1 .sizes; room = l .inv .1 .room; used = omega arith },
-      λ ps m. gather-same ps (s .args .order .now) (s .args .depth .now) (s .args .size .now) (s .args .above .now) m (l .next .0) (l .cell) (l .cells) (omega arith) (l .inv .2 ps m) (sym (c .before .before .group-root .ensures ps (m .families)) ∙ c .before .if2 .left),
+      λ ps m. gather-same ps (s .args .order .now) (s .args .depth .now) (s .args .size .now) (s .args .above .now) m (l .next .0) (l .cell) (l .cells) (omega arith) (l .inv .2 ps m) (c .before .if2 .left),
     )
 
 same-length : tie.Need-same-length Inv-loop μ-loop
@@ -126,7 +119,6 @@ groups-spec =
     (λ c κs. search needs)
     loop-holds
     (λ c. search needs)
-    group-root-requires
     (λ c. search needs)
     (λ c. search needs)
     (λ c. search needs)
@@ -142,7 +134,7 @@ groups-spec =
     (λ c. search needs)
     slice-write-cells-3
     (λ c. search needs)
-    (λ c. omega (arith, bounds c .0, c .before .before .before .before .before .before .before .before .before .loop .inv .1 .few))
+    (λ c. omega (arith, bounds c .0, c .before .before .before .before .before .before .before .before .loop .inv .1 .few))
     (λ c. omega (arith, bounds c .0, bounds c .1))
     loop-again
     (λ c. search needs)

@@ -13,7 +13,7 @@ use Rattle.layout.proofs.sections.kind_section.Tie as tie
 
 kinds-requires : tie.Need-kinds-requires
 kinds-requires c κs =
-    let s = c .before .before .before .before .before .before .before in
+    let s = c .before .before .before .before .before .before in
     let ps = s .args .parents .now in
     let n = length ps in
     let xs = s .args .space .now in (
@@ -23,13 +23,13 @@ kinds-requires c κs =
 
 returns : tie.Need-returns
 returns c =
-    let s = c .before .before .before .before .before .before .before .before .before .before .before .before .before .before .before .before .before in
+    let s = c .before .before .before .before .before .before .before .before .before .before .before .before .before .before .before .before in
     let ps = s .args .parents .now in
     let n = length ps in
     let t = s .args .table .now in
     let m = s .pre .0 in
     let w = m .walked in
-    let cells = c .before .before .before .before .before .before .before .before .before .kinds .last .1 .1 .0 in
+    let cells = c .before .before .before .before .before .before .before .before .before .kinds .last .1 .0 in
     let r = c .before .before .before .before .before .before .before .before .before .kinds .ensures ps (families-of ps (s .args .space .now) m) in
     let fits : 4 + n + n ≤ length t = omega (arith, s .pre .1) in
     let f = kind groupLimit ps in
@@ -45,12 +45,6 @@ pub kind-section-spec : {M : Type 1} → statement M
 kind-section-spec =
     tie.close
     (tie.spec
-    (λ c. search needs)
-    (λ c. search needs)
-    (λ c. search needs)
-    (λ c. search needs)
-    (λ c. search needs)
-    (λ c. search needs)
     (λ c. search needs)
     (λ c. search needs)
     (λ c. search needs)
