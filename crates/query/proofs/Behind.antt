@@ -1,20 +1,23 @@
 -- Cells listed by a part of a program, put behind those so far. Assumes nothing.
 use mathlib.Core.Path.{_≡_, refl, sym, ap, _∙_}
-use mathlib.Core.List.{List, [], _∷_}
-use mathlib.Core.Bool.{Bool, true, false, cond}
-use Prim.Native.Nat.{ℕ, zero, suc, _+_, _≤_, _<_}
+use mathlib.Core.List.{List, [], _∷_, _++_, append-assoc, append-nil}
+use Prim.Native.Nat.{ℕ, suc, _+_, _-_, _≤_, _<_}
 use native.Mathlib.Omega.{arith}
-use lib.ListN.{length, getD, take, set}
-use lib.Seq.{set-getD}
-use lib.Dec.{lit≤, ltb}
-use borrow.Author.Tests.{lt-ltb}
-use Rattle.answers.specs.Reading.{Reading, run, trace}
-use Rattle.answers.specs.Answers.{pickCells, pushed, pushedAll, listed, answerTo, answerFrom}
+use native.Mathlib.Decide.{decLt}
+use lib.ListN.{length, getD, take, set, replicate, length-append, length-replicate, replicate-append-replicate}
+use lib.Seq.{ext-getD, set-append-seam, sets, take-append-seam}
+use lib.Dec.{lit≤}
+use Rattle.base.specs.Lists.{each, below, padded}
+use Rattle.base.proofs.Lists.{each-length, below-at}
+use Rattle.base.proofs.Joined.{padded-length, padded-in, padded-past}
+use Rattle.answers.specs.Reading.{Reading, trace}
+use Rattle.answers.specs.Answers.{pushedAll, listed, answerTo, answerFrom}
 use Rattle.answers.specs.Steps.{fromJump}
 use Rattle.answers.specs.declared.Answer.{Answer}
 use Rattle.answers.specs.declared.Cells.{Cells}
-use Rattle.answers.proofs.Answering.{from-is, whole, few, fifteen-places, cells-listed}
+use Rattle.answers.proofs.Answering.{push-all-listed, from-is, whole, few, cells-listed}
 use Rattle.answers.proofs.Bounds.{jump-within}
+use Rattle.query.specs.Parts.{Held}
 
 -- a part's answer with its cells behind those so far is the answer of going on with it
 pub part-goes : (t : List ℕ) (cs : Cells) (p : Reading) (a : Answer) (all : Cells) → a ≡ answerTo t p → all ≡ pushedAll cs (take (a .cells .count) (a .cells .at))
@@ -24,6 +27,11 @@ part-goes t cs p a all e h =
     let cells : all ≡ pushedAll cs (trace t p) = h ∙ ap (pushedAll cs) (ap (λ b. take (b .cells .count) (b .cells .at)) e ∙ cells-listed t p) in
     rw (e, cells) (sym (from-is t cs p))
 
+-- an answer lists the cells that it has read
+pub answer-held : (t : List ℕ) (p : Reading) (a : Answer) → a ≡ answerTo t p → Held (a .cells .count) (a .cells)
+unfolding answerTo listed
+answer-held t p a e = rw e (record { list = trace t p; long = refl; is = refl })
+
 -- step 4's answer
 module _ (t : List ℕ) (n d jump : ℕ) (a : Answer) (e : a ≡ answerFrom t (listed []) (fromJump n d jump)) where
   jump-answer : a ≡ answerTo t (fromJump n d jump)
@@ -32,36 +40,75 @@ module _ (t : List ℕ) (n d jump : ℕ) (a : Answer) (e : a ≡ answerFrom t (l
   pub jump-four : a .cells .count ≤ 4
   jump-four = rw jump-answer (few t 4 (fromJump n d jump) (jump-within n d jump))
 
-  pub jump-long : length (a .cells .at) ≡ 15
-  jump-long = rw jump-answer (fifteen-places t 4 (fromJump n d jump) (jump-within n d jump) (lit≤ tt))
+  pub jump-held : Held (a .cells .count) (a .cells)
+  jump-held = answer-held t (fromJump n d jump) a jump-answer
 
   pub jump-goes : (cs all : Cells) → all ≡ pushedAll cs (take (a .cells .count) (a .cells .at)) → record { number = a .number; word = a .word; cells = all } ≡ answerFrom t cs (fromJump n d jump)
   jump-goes cs all h = part-goes t cs (fromJump n d jump) a all jump-answer h
 
--- one cell that may be given
-pub one-given : (cs : Cells) (i cell : ℕ) (given : Bool) → (given ≡ true → cs .count ≡ i) → i < 15
-    → record { at = set (cs .at) i (cond given cell (getD (cs .at) i 0)); count = cond given (i + 1) (cs .count) } ≡ pickCells given (pushed cs cell) cs
-unfolding pushed
-one-given cs i cell true h low = rw (← (h refl)) (simp (lt-ltb (cs .count) 15 (rw (h refl) low)))
-one-given cs i cell false h low = rw (set-getD (cs .at) i 0)
+-- the first places of a list with zeros behind it
+first-places : (n j : ℕ) (xs : List ℕ) → length xs ≤ j → below j (λ i. getD (padded n xs) i 0) ≡ padded j xs
+unfolding each
+first-places n j xs h =
+    ext-getD 0 (below j (λ i. getD (padded n xs) i 0)) (padded j xs) (each-length j 0 _ ∙ sym (padded-length j xs h))
+    (λ i b. below-at j (λ i. getD (padded n xs) i 0) 0 i (omega (arith, each-length j 0 (λ i. getD (padded n xs) i 0))) ∙ go i (decLt i (length xs)))
+  where
+    go : (i : ℕ) → Dec (i < length xs) → getD (padded n xs) i 0 ≡ getD (padded j xs) i 0
+    go i (yes b) = padded-in n xs i b ∙ sym (padded-in j xs i b)
+    go i (no b) = padded-past n xs i (omega arith) ∙ sym (padded-past j xs i (omega arith))
 
--- how many cells stand in the list after the j-th of n, which is given
-pub next-count : (cs r : Cells) (i j n cell : ℕ) → r ≡ pickCells (ltb j n) (pushed cs cell) cs → j < n → cs .count ≡ i + j → i + j < 15 → r .count ≡ i + (j + 1)
-unfolding pushed
-next-count cs r i j n cell e b h low = rw (e, lt-ltb j n b) (rw (lt-ltb (cs .count) 15 (rw h low)) (omega arith))
+-- no zeros stand behind a list that fills its places
+full : (n : ℕ) (xs : List ℕ) → length xs ≡ n → padded n xs ≡ xs
+unfolding padded
+full n xs h = let z : n - length xs ≡ 0 = omega arith in rw z (append-nil xs)
 
--- four of them, by a count of at most four
-pub four-given : (cs one two three r : Cells) (at : List ℕ) (n : ℕ) → n ≤ 4 → 4 ≤ length at
-    → one ≡ pickCells (ltb 0 n) (pushed cs (getD at 0 0)) cs → two ≡ pickCells (ltb 1 n) (pushed one (getD at 1 0)) one
-    → three ≡ pickCells (ltb 2 n) (pushed two (getD at 2 0)) two → r ≡ pickCells (ltb 3 n) (pushed three (getD at 3 0)) three → r ≡ pushedAll cs (take n at)
-unfolding pushedAll
-four-given cs one two three r (a ∷ b ∷ c ∷ d ∷ at) zero h l e f g k = k ∙ g ∙ f ∙ e
-four-given cs one two three r (a ∷ b ∷ c ∷ d ∷ at) (suc zero) h l e f g k = k ∙ g ∙ f ∙ e
-four-given cs one two three r (a ∷ b ∷ c ∷ d ∷ at) (suc (suc zero)) h l e f g k = k ∙ g ∙ f ∙ ap (λ x. pushed x b) e
-four-given cs one two three r (a ∷ b ∷ c ∷ d ∷ at) (suc (suc (suc zero))) h l e f g k = k ∙ g ∙ ap (λ x. pushed x c) (f ∙ ap (λ x. pushed x b) e)
-four-given cs one two three r (a ∷ b ∷ c ∷ d ∷ at) (suc (suc (suc (suc zero)))) h l e f g k = k ∙ ap (λ x. pushed x d) (g ∙ ap (λ x. pushed x c) (f ∙ ap (λ x. pushed x b) e))
-four-given cs one two three r (a ∷ b ∷ c ∷ d ∷ at) (suc (suc (suc (suc (suc n))))) h l e f g k = absurd (omega arith)
-four-given cs one two three r [] n h l e f g k = absurd (omega arith)
-four-given cs one two three r (a ∷ []) n h l e f g k = absurd (omega arith)
-four-given cs one two three r (a ∷ b ∷ []) n h l e f g k = absurd (omega arith)
-four-given cs one two three r (a ∷ b ∷ c ∷ []) n h l e f g k = absurd (omega arith)
+-- zeros behind one list are zeros behind both
+padded-behind : (n j : ℕ) (xs ys : List ℕ) → length ys ≤ j → length xs + j ≤ n → padded n (xs ++ padded j ys) ≡ padded n (xs ++ ys)
+unfolding padded
+padded-behind n j xs ys h r =
+    let z : (j - length ys) + (n - length (xs ++ (ys ++ replicate (j - length ys) 0))) ≡ n - length (xs ++ ys) =
+    omega (arith, length-append xs (ys ++ replicate (j - length ys) 0), length-append ys (replicate (j - length ys) 0), length-append xs ys, length-replicate {A = ℕ} (j - length ys) 0) in
+    simp (append-assoc, replicate-append-replicate, z)
+
+-- words stored at the first unused places
+sets-behind : (n : ℕ) (vs xs : List ℕ) → length xs + length vs ≤ n → sets (padded n xs) (length xs) vs ≡ padded n (xs ++ vs)
+unfolding padded
+sets-behind n [] xs h = ap (padded n) (sym (append-nil xs))
+sets-behind n (v ∷ vs) xs h =
+    let l = length-append xs (v ∷ []) in
+    let m : n - length xs ≡ suc (n - length (xs ++ (v ∷ []))) = omega arith in
+    let s : set (padded n xs) (length xs) v ≡ padded n (xs ++ (v ∷ [])) = rw m (set-append-seam xs 0 _ v ∙ sym (append-assoc xs (v ∷ []) _)) in
+    let k : suc (length xs) ≡ length (xs ++ (v ∷ [])) = omega arith in
+    rw (s, k) (sets-behind n vs (xs ++ (v ∷ [])) (omega arith) ∙ ap (padded n) (append-assoc xs (v ∷ []) vs))
+
+-- one list behind another: its first j places are copied, where it has no more cells
+behind : (xs ys : List ℕ) (j : ℕ) → length ys ≤ j → length xs + j ≤ 15
+    → record { at = padded 15 (xs ++ below j (λ i. getD (listed ys .at) i 0)); count = length xs + length ys } ≡ pushedAll (listed xs) (take (length ys) (listed ys .at))
+unfolding listed
+behind xs ys j h r =
+    let t : take (length ys) (padded 15 ys) ≡ ys = unfold padded in take-append-seam ys _ in
+    rw (first-places 15 j ys h, padded-behind 15 j xs ys h r, ← (length-append xs ys), t) (sym (push-all-listed xs ys (omega arith)))
+
+module _ (cs more : Cells) (k : ℕ) (a : Held k cs) (b : Held (more .count) more) where
+  -- by four stores
+  pub four-behind : k ≤ 11 → more .count ≤ 4
+      → record { at = set (set (set (set (cs .at) k (getD (more .at) 0 0)) (k + 1) (getD (more .at) 1 0)) (k + 2) (getD (more .at) 2 0)) (k + 3) (getD (more .at) 3 0); count = k + more .count } ≡ pushedAll cs (take (more .count) (more .at))
+  unfolding each listed
+  four-behind h f =
+      let one : k + 1 ≡ suc k = omega arith in
+      let two : k + 2 ≡ suc (suc k) = omega arith in
+      let three : k + 3 ≡ suc (suc (suc k)) = omega arith in
+      let s = sets-behind 15 (below 4 (λ i. getD (listed (b .list) .at) i 0)) (a .list) (omega (arith, a .long)) in
+      rw (one, two, three, ← (a .long), a .is, b .is) (rw s (behind (a .list) (b .list) 4 (omega (arith, b .long)) (omega (arith, a .long))))
+
+  -- by fifteen words
+  pub rest-behind : (j : ℕ) → k + j ≡ 15 → more .count ≤ j
+      → record { at = below k (λ i. getD (cs .at) i 0) ++ below j (λ i. getD (more .at) i 0); count = k + more .count } ≡ pushedAll cs (take (more .count) (more .at))
+  unfolding listed
+  rest-behind j h f =
+      let xs = a .list in
+      let ys = b .list in
+      let more-at = below j (λ i. getD (listed ys .at) i 0) in
+      let front : below (length xs) (λ i. getD (listed xs .at) i 0) ≡ xs = first-places 15 (length xs) xs (omega arith) ∙ full (length xs) xs refl in
+      let all : xs ++ more-at ≡ padded 15 (xs ++ more-at) = sym (full 15 (xs ++ more-at) (omega (arith, a .long, length-append xs more-at, each-length j 0 (λ i. getD (listed ys .at) i 0)))) in
+      rw (← (a .long), a .is, b .is, front, all) (behind xs ys j (omega (arith, b .long)) (omega (arith, a .long)))

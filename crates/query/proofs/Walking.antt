@@ -1,16 +1,18 @@
 -- How a program's answer goes on over a test, a read and an end: `steps` has `search` walk a program by these. Assumes nothing.
-use mathlib.Core.Path.{_≡_, ap}
-use mathlib.Core.List.{List}
+use mathlib.Core.Path.{_≡_, ap, _∙_}
+use mathlib.Core.List.{List, [], _∷_, _++_}
 use mathlib.Core.Option.{Option, none, some, Option·elim}
 use Prim.Native.Nat.{ℕ, _+_, _≤_, _<_}
 use native.Mathlib.Omega.{arith}
+use lib.ListN.{length-append}
 use borrow.Author.Tests.{le-leb, lt-leb, lt-ltb, le-ltb, eq-eqb, ne-eqb}
 use Rattle.base.specs.Numbers.{Outcome}
 use Rattle.answers.specs.Reading.{Reading, done, read, ifLe, ifLt, ifEq, ifNone}
-use Rattle.answers.specs.Answers.{pushed, answerFrom}
+use Rattle.answers.specs.Answers.{pushed, pushedAll, answerFrom}
 use Rattle.answers.specs.declared.Cells.{Cells}
 use Rattle.answers.specs.declared.Answer.{Answer}
-use Rattle.query.specs.Parts.{gotAt}
+use Rattle.answers.proofs.Answering.{push-all-listed}
+use Rattle.query.specs.Parts.{Held, gotAt}
 use Rattle.query.specs.declared.reading.Got.{Got}
 
 module _ (r : Answer) (t : List ℕ) (cs : Cells) where
@@ -59,6 +61,12 @@ module _ (r : Answer) (t : List ℕ) (cs : Cells) where
 pub ruleset steps = (le-yes, le-no, lt-yes, lt-no, eq-yes, eq-no, is-none, is-some, reads, ends)
 
 -- a read lists one cell more
-pub got-count : (g : Got) (w cell : ℕ) (cs : Cells) (k : ℕ) → g ≡ record { word = w; cells = pushed cs cell } → cs .count ≡ k → k < 15 → g .cells .count ≡ k + 1
-unfolding pushed
-got-count g w cell cs k e h low = rw e (rw (lt-ltb (cs .count) 15 (rw h low)) (ap (λ n. n + 1) h))
+pub got-held : (g : Got) (w cell : ℕ) (cs : Cells) (k : ℕ) → g ≡ record { word = w; cells = pushed cs cell } → Held k cs → k < 15 → Held (k + 1) (g .cells)
+unfolding pushedAll
+got-held g w cell cs k e h low =
+    let l = length-append (h .list) (cell ∷ []) in
+    record {
+      list = h .list ++ (cell ∷ []);
+      long = omega (arith, h .long);
+      is = ap (λ b. b .cells) e ∙ ap (λ b. pushed b cell) (h .is) ∙ push-all-listed (h .list) (cell ∷ []) (omega (arith, h .long));
+    }

@@ -17,6 +17,12 @@ use Rattle.query.specs.declared.reading.Got.{Got}
 use Rattle.query.specs.declared.relate.Relation.{Relation}
 use Rattle.query.specs.declared.look.Count.{Count}
 
+-- k cells were read: a list of them, unused places 0
+pub record Held (k : ℕ) (cs : Cells) : Type 0 where
+  pub list : List ℕ
+  pub long : length list ≡ k
+  pub is : cs ≡ listed list
+
 -- one word read, and its cell listed
 abbrev pub gotAt : List ℕ → ℕ → Cells → Got
 gotAt t cell cs = record { word = wordAt t cell; cells = pushed cs cell }
@@ -44,7 +50,7 @@ openFrom t o next = pickAnswer (eqb (o .n) 0) (record { number = 9; word = 0; ce
 -- step 1 was taken on the table t: a count that is not 0 has room, and any program goes on from there
 pub record OpenedBy (t : List ℕ) (o : Count) : Type 0 where
   pub room : (o .n ≡ 0 → ⊥) → Sized t (o .n)
-  pub one : (o .n ≡ 0 → ⊥) → o .cells .count ≡ 1
+  pub one : (o .n ≡ 0 → ⊥) → Held 1 (o .cells)
   pub goes : (next : ℕ → Reading) → openFrom t o next ≡ answerFrom t (listed []) (opened (length t) next)
 
 -- what a relation of u to v gives two programs, one for "at or above" and one for not; or its refusal

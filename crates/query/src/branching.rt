@@ -6,7 +6,8 @@ ghost use lib.ListN.{length};
 ghost use Rattle.base.specs.Limits.{Sized};
 ghost use Rattle.answers.specs.Answers.{listed, answerFrom};
 ghost use Rattle.answers.specs.Steps.{branch, strictly, deeper};
-use crate::joining::joined;
+ghost use Rattle.query.specs.Parts.{Held};
+use crate::joining::with_ten;
 use crate::look::look_words;
 use crate::reading::broken;
 use crate::reading::read;
@@ -17,7 +18,7 @@ use base::Node;
 
 // An 8 of the level lookup is given as 9.
 fn deeper(table: &[u32], n: u32, v: Node, depth: u32, cells: Cells) -> Answer
-    requires { ⌜ Sized (now table) n ⌝ }
+    requires { ⌜ (Sized (now table) n) × (Held 5 cells) ⌝ }
     ensures { λ r. ⌜ r ≡ answerFrom (now (table .entry)) cells (deeper (length (now (table .entry))) (v .0) n depth) ⌝ }
 {
     if n <= depth {
@@ -27,7 +28,7 @@ fn deeper(table: &[u32], n: u32, v: Node, depth: u32, cells: Cells) -> Answer
     look_words(table, false, v, depth + 1, &mut words);
     let inner = Answer::of_words(words);
     let more = inner.cells;
-    let all = joined(cells, more);
+    let all = with_ten(cells, more);
     if inner.number == 8 {
         return broken(all);
     }
@@ -39,7 +40,7 @@ fn deeper(table: &[u32], n: u32, v: Node, depth: u32, cells: Cells) -> Answer
 }
 
 pub(crate) fn strictly(table: &[u32], n: u32, u: Node, v: Node, cells: Cells) -> Answer
-    requires { ⌜ (Sized (now table) n) × (u .0 < n) ⌝ }
+    requires { ⌜ (Sized (now table) n) × (u .0 < n) × (Held 4 cells) ⌝ }
     ensures { λ r. ⌜ r ≡ answerFrom (now (table .entry)) cells (strictly (length (now (table .entry))) (u .0) (v .0) n) ⌝ }
 {
     if u.0 == v.0 {

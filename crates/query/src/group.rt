@@ -7,7 +7,7 @@ ghost use lib.Dec.{eqb};
 ghost use Rattle.base.specs.Limits.{Sized};
 ghost use Rattle.answers.specs.Answers.{answerFrom};
 ghost use Rattle.answers.specs.Steps.{overGroup, leftGroup, inOrder, inGroup, shaped, fromGroup};
-ghost use Rattle.query.specs.Parts.{InGroup};
+ghost use Rattle.query.specs.Parts.{Held, InGroup};
 use crate::joining::with_four;
 use crate::jump::from_jump;
 use crate::reading::broken;
@@ -21,7 +21,7 @@ use shapes::row;
 
 // KIND of the group's parent, which is not micro: step 4 from there. Six cells were read.
 fn over_group(table: &[u32], n: u32, d: u32, kind: u32, cells: Cells) -> Answer
-    requires { ⌜ (Sized (now table) n) × (cells .count ≡ 6) ⌝ }
+    requires { ⌜ (Sized (now table) n) × (Held 6 cells) ⌝ }
     ensures { λ r. ⌜ r ≡ answerFrom (now (table .entry)) cells (overGroup n d kind) ⌝ }
 {
     if 2147483648 <= kind {
@@ -38,7 +38,7 @@ fn over_group(table: &[u32], n: u32, d: u32, kind: u32, cells: Cells) -> Answer
 
 // The group's parent p; `here` tells whether p has the depth asked.
 fn left_group(table: &[u32], n: u32, d: u32, here: bool, p: Node, cells: Cells) -> Answer
-    requires { ⌜ (Sized (now table) n) × (cells .count ≡ 5) ⌝ }
+    requires { ⌜ (Sized (now table) n) × (Held 5 cells) ⌝ }
     ensures { λ r. ⌜ ((depth : ℕ) → here ≡ eqb depth d → r ≡ answerFrom (now (table .entry)) cells (leftGroup n d depth (p .0))) ⌝ }
 {
     if n <= p.0 {
@@ -94,7 +94,7 @@ fn in_group(
     row: [u8; 5],
     cells: Cells,
 ) -> Answer
-    requires { ⌜ (InGroup (now table) n d depth group shape local row) × (cells .count ≡ 4) ⌝ }
+    requires { ⌜ (InGroup (now table) n d depth group shape local row) × (Held 4 cells) ⌝ }
     ensures { λ r. ⌜ r ≡ answerFrom (now (table .entry)) cells (inGroup n d depth group local shape) ⌝ }
 {
     let climbs = depth - d;
@@ -123,7 +123,7 @@ fn shaped(
     shape: u32,
     cells: Cells,
 ) -> Answer
-    requires { ⌜ (Sized (now table) n) × (group < n) × (d < depth) × (cells .count ≡ 4) ⌝ }
+    requires { ⌜ (Sized (now table) n) × (group < n) × (d < depth) × (Held 4 cells) ⌝ }
     ensures { λ r. ⌜ r ≡ answerFrom (now (table .entry)) cells (shaped n d depth group local shape) ⌝ }
 {
     if 23 <= shape {
@@ -148,7 +148,7 @@ pub(crate) fn from_group(
     local: u32,
     cells: Cells,
 ) -> Answer
-    requires { ⌜ (Sized (now table) n) × (d < depth) × (cells .count ≡ 3) ⌝ }
+    requires { ⌜ (Sized (now table) n) × (d < depth) × (Held 3 cells) ⌝ }
     ensures { λ r. ⌜ r ≡ answerFrom (now (table .entry)) cells (fromGroup n d depth group local) ⌝ }
 {
     if n <= group {

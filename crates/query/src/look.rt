@@ -6,7 +6,7 @@ ghost use lib.ListN.{length};
 ghost use Rattle.base.specs.Limits.{Sized};
 ghost use Rattle.answers.specs.Answers.{listed, answerFrom, answerTo, answerWords};
 ghost use Rattle.answers.specs.Steps.{opened, entered, deep, wanted, descended, kinded};
-ghost use Rattle.query.specs.Parts.{countFrom, OpenedBy};
+ghost use Rattle.query.specs.Parts.{Held, countFrom, OpenedBy};
 use crate::group::from_group;
 use crate::joining::with_four;
 use crate::jump::from_jump;
@@ -51,7 +51,7 @@ pub(crate) fn opened(table: &[u32]) -> Count
 
 // By KIND: a group, or straight to step 4. Three cells were read.
 fn kinded(table: &[u32], n: u32, d: u32, depth: u32, kind: u32, cells: Cells) -> Answer
-    requires { ⌜ (Sized (now table) n) × (d < depth) × (cells .count ≡ 3) ⌝ }
+    requires { ⌜ (Sized (now table) n) × (d < depth) × (Held 3 cells) ⌝ }
     ensures { λ r. ⌜ r ≡ answerFrom (now (table .entry)) cells (kinded n d depth kind) ⌝ }
 {
     if 2147483648 <= kind {
@@ -68,7 +68,7 @@ fn kinded(table: &[u32], n: u32, d: u32, depth: u32, kind: u32, cells: Cells) ->
 }
 
 fn descended(table: &[u32], n: u32, v: Node, d: u32, depth: u32, cells: Cells) -> Answer
-    requires { ⌜ (Sized (now table) n) × (v .0 < n) × (d ≤ depth) × (cells .count ≡ 2) ⌝ }
+    requires { ⌜ (Sized (now table) n) × (v .0 < n) × (d ≤ depth) × (Held 2 cells) ⌝ }
     ensures { λ r. ⌜ r ≡ answerFrom (now (table .entry)) cells (descended n (v .0) d depth) ⌝ }
 {
     if depth == d {
@@ -94,7 +94,7 @@ fn wanted(climbs: bool, x: u32, depth: u32) -> u32
 
 // Step 2: the depth of v.
 fn deep(table: &[u32], n: u32, climbs: bool, v: Node, x: u32, depth: u32, cells: Cells) -> Answer
-    requires { ⌜ (Sized (now table) n) × (v .0 < n) × (cells .count ≡ 2) ⌝ }
+    requires { ⌜ (Sized (now table) n) × (v .0 < n) × (Held 2 cells) ⌝ }
     ensures { λ r. ⌜ r ≡ answerFrom (now (table .entry)) cells (deep n climbs (v .0) x depth) ⌝ }
 {
     if n <= depth {
@@ -112,7 +112,7 @@ fn deep(table: &[u32], n: u32, climbs: bool, v: Node, x: u32, depth: u32, cells:
 
 // Step 2: v.
 fn entered(table: &[u32], n: u32, climbs: bool, v: Node, x: u32, cells: Cells) -> Answer
-    requires { ⌜ (Sized (now table) n) × (cells .count ≡ 1) ⌝ }
+    requires { ⌜ (Sized (now table) n) × (Held 1 cells) ⌝ }
     ensures { λ r. ⌜ r ≡ answerFrom (now (table .entry)) cells (entered climbs (v .0) x n) ⌝ }
 {
     if n <= v.0 {

@@ -9,7 +9,7 @@ ghost use Rattle.base.specs.Limits.{Sized};
 ghost use Rattle.answers.specs.Reading.{Reading};
 ghost use Rattle.answers.specs.Answers.{listed, answerFrom};
 ghost use Rattle.answers.specs.Steps.{opened, related, ancestry};
-ghost use Rattle.query.specs.Parts.{relatedFrom};
+ghost use Rattle.query.specs.Parts.{Held, relatedFrom};
 use crate::look::opened;
 use crate::reading::read;
 use answers::Answer;
@@ -38,8 +38,8 @@ fn holds(first: Position, size: u32, other: Position) -> bool
 
 // The reads of ancestry: PRE and SIZE of u, PRE of v.
 fn compared(table: &[u32], n: u32, u: Node, v: Node, cells: Cells) -> Relation
-    requires { ⌜ (Sized (now table) n) × (u .0 < n) × (v .0 < n) ⌝ }
-    ensures same { λ r. ⌜ r .n ≡ n ⌝ }
+    requires { ⌜ (Sized (now table) n) × (u .0 < n) × (v .0 < n) × (Held 1 cells) ⌝ }
+    ensures known { λ r. ⌜ (r .n ≡ n) × (Held 4 (r .cells)) ⌝ }
     ensures goes { λ r. ⌜ ((above : ℕ → Reading) (apart : Reading) → relatedFrom (now (table .entry)) r above apart ≡ answerFrom (now (table .entry)) cells (related (u .0) (v .0) above apart n)) ⌝ }
 {
     let pre_u = read(table, 4 + 4 * n + u.0, cells);
@@ -58,8 +58,8 @@ fn compared(table: &[u32], n: u32, u: Node, v: Node, cells: Cells) -> Relation
 }
 
 fn related(table: &[u32], n: u32, u: Node, v: Node, cells: Cells) -> Relation
-    requires { ⌜ Sized (now table) n ⌝ }
-    ensures known { λ r. ⌜ (r .number ≡ 0 → (r .n ≡ n) × (u .0 < n)) ⌝ }
+    requires { ⌜ (Sized (now table) n) × (Held 1 cells) ⌝ }
+    ensures known { λ r. ⌜ (r .number ≡ 0 → (r .n ≡ n) × (u .0 < n) × (Held 4 (r .cells))) ⌝ }
     ensures goes { λ r. ⌜ ((above : ℕ → Reading) (apart : Reading) → relatedFrom (now (table .entry)) r above apart ≡ answerFrom (now (table .entry)) cells (related (u .0) (v .0) above apart n)) ⌝ }
 {
     if n <= u.0 {
@@ -85,7 +85,7 @@ fn related(table: &[u32], n: u32, u: Node, v: Node, cells: Cells) -> Relation
 
 // Step 1, and the reads of ancestry.
 pub(crate) fn stand(table: &[u32], u: Node, v: Node) -> Relation
-    ensures known { λ r. ⌜ (r .number ≡ 0 → Sized (now (table .entry)) (r .n) × (u .0 < r .n)) ⌝ }
+    ensures known { λ r. ⌜ (r .number ≡ 0 → (Sized (now (table .entry)) (r .n)) × (u .0 < r .n) × (Held 4 (r .cells))) ⌝ }
     ensures goes { λ r. ⌜ ((above : ℕ → Reading) (apart : Reading) → relatedFrom (now (table .entry)) r above apart ≡ answerFrom (now (table .entry)) (listed []) (opened (length (now (table .entry))) (related (u .0) (v .0) above apart))) ⌝ }
 {
     let count = opened(table);

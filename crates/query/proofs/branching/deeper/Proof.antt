@@ -1,8 +1,7 @@
 -- `branching::deeper` meets its contract. Assumes nothing.
-use mathlib.Core.Path.{_≡_, ap}
+use mathlib.Core.Path.{_≡_}
 use mathlib.Core.List.{List}
 use Prim.Native.Nat.{ℕ, _≤_}
-use native.Mathlib.Omega.{arith}
 use lib.Dec.{lit≤}
 use lib.ListN.{length}
 use borrow.Author.Needs.{needs}
@@ -11,6 +10,7 @@ use Rattle.answers.specs.Steps.{level, inside, deeper}
 use Rattle.answers.specs.declared.Answer.{Answer}
 use Rattle.answers.proofs.Bounds.{level-within}
 use Rattle.answers.proofs.Answering.{few, fifteen-places}
+use Rattle.query.proofs.Behind.{answer-held}
 use Rattle.query.proofs.Relating.{inner-goes}
 use Rattle.query.proofs.Walking.{steps, le-no}
 use Rattle.query.proofs.branching.deeper.Statement.{statement}
@@ -20,8 +20,8 @@ use Rattle.query.proofs.branching.deeper.Tie as tie
 looked : (t w : List ℕ) (v d : ℕ) (a : Answer) → ((b : Answer) → length (b .cells .at) ≡ 15 → w ≡ answerWords b → a ≡ b) → w ≡ answerWords (answerTo t (level (length t) v d)) → a ≡ answerTo t (level (length t) v d)
 looked t w v d a h e = h (answerTo t (level (length t) v d)) (fifteen-places t 10 (level (length t) v d) (level-within (length t) v d) (lit≤ tt)) e
 
-ten : (t : List ℕ) (v d : ℕ) (a : Answer) → a ≡ answerTo t (level (length t) v d) → a .cells .count ≤ 15
-ten t v d a e = omega (arith, ap (λ b. b .cells .count) e, few t 10 (level (length t) v d) (level-within (length t) v d))
+ten : (t : List ℕ) (v d : ℕ) (a : Answer) → a ≡ answerTo t (level (length t) v d) → a .cells .count ≤ 10
+ten t v d a e = rw e (few t 10 (level (length t) v d) (level-within (length t) v d))
 
 pub deeper-spec : {M : Type 1} → statement M
 unfolding deeper inside level
@@ -33,15 +33,18 @@ deeper-spec =
     (λ c. search needs)
     (λ c κs. search needs)
     (λ c κs. search needs)
-    (λ c κs. let inner = c .before in ten _ _ _ _ (looked _ _ _ _ _ (inner .of-words .ensures) (inner .before .look-words .ensures)))
+    (λ c κs.
+    let inner = c .before in
+    let is = looked _ _ _ _ _ (inner .of-words .ensures) (inner .before .look-words .ensures) in
+    (inner .before .before .before .before .before .pre .1, answer-held _ _ _ is, ten _ _ _ _ is))
     (λ c κs. search needs)
     (λ c.
     let joined = c .before .before .before in
     let inner = joined .before .before in
     le-no _ _ _ _ _ _ _ (inner .before .before .before .if1 .left)
-    (inner-goes _ _ _ (level _ _ _) inside (inner .of-words .result) (joined .joined .result) (looked _ _ _ _ _ (inner .of-words .ensures) (inner .before .look-words .ensures)) (joined .joined .ensures) (search steps)))
+    (inner-goes _ _ _ (level _ _ _) inside (inner .of-words .result) (joined .with-ten .result) (looked _ _ _ _ _ (inner .of-words .ensures) (inner .before .look-words .ensures)) (joined .with-ten .ensures) (search steps)))
     (λ c.
     let joined = c .before .before in
     let inner = joined .before .before in
     le-no _ _ _ _ _ _ _ (inner .before .before .before .if1 .left)
-    (inner-goes _ _ _ (level _ _ _) inside (inner .of-words .result) (joined .joined .result) (looked _ _ _ _ _ (inner .of-words .ensures) (inner .before .look-words .ensures)) (joined .joined .ensures) (search steps))))
+    (inner-goes _ _ _ (level _ _ _) inside (inner .of-words .result) (joined .with-ten .result) (looked _ _ _ _ _ (inner .of-words .ensures) (inner .before .look-words .ensures)) (joined .with-ten .ensures) (search steps))))

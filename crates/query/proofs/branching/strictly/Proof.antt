@@ -1,7 +1,8 @@
 -- `branching::strictly` meets its contract. Assumes nothing.
+use lib.Dec.{lit<}
 use borrow.Author.Needs.{needs}
 use Rattle.answers.specs.Steps.{strictly}
-use Rattle.query.proofs.Walking.{steps}
+use Rattle.query.proofs.Walking.{steps, got-held}
 use Rattle.query.proofs.branching.strictly.Statement.{statement}
 use Rattle.query.proofs.branching.strictly.Tie as tie
 
@@ -13,5 +14,5 @@ strictly-spec =
     (λ c. search steps)
     (λ c. search needs)
     (λ c κs. search needs)
-    (λ c κs. search needs)
+    (λ c κs. (search needs, got-held _ _ _ _ 4 (c .before .read .ensures) (c .before .before .before .before .before .before .before .pre .2) (lit< tt)))
     (λ c. search steps))

@@ -2,7 +2,7 @@
 use lib.Dec.{lit<}
 use borrow.Author.Needs.{needs}
 use Rattle.answers.specs.Steps.{fromGroup}
-use Rattle.query.proofs.Walking.{steps, got-count}
+use Rattle.query.proofs.Walking.{steps, got-held}
 use Rattle.query.proofs.group.from_group.Statement.{statement}
 use Rattle.query.proofs.group.from_group.Tie as tie
 
@@ -19,5 +19,5 @@ from-group-spec =
     (λ c. search needs)
     (λ c. search needs)
     (λ c κs. search needs)
-    (λ c κs. (search needs, search needs, search needs, got-count _ _ _ _ 3 (c .before .read .ensures) (c .before .before .before .before .pre .2) (lit< tt)))
+    (λ c κs. (search needs, search needs, search needs, got-held _ _ _ _ 3 (c .before .read .ensures) (c .before .before .before .before .pre .2) (lit< tt)))
     (λ c. search steps))

@@ -8,7 +8,7 @@ use Rattle.base.specs.Limits.{groupLimit}
 use Rattle.shapes.specs.Climbs.{localDepth}
 use Rattle.answers.specs.Steps.{inGroup}
 use Rattle.query.proofs.Rows.{cell-at, past-depth, up-to-depth, parent-depth}
-use Rattle.query.proofs.Walking.{steps, got-count}
+use Rattle.query.proofs.Walking.{steps, got-held}
 use Rattle.query.proofs.group.in_group.Statement.{statement}
 use Rattle.query.proofs.group.in_group.Tie as tie
 
@@ -27,7 +27,7 @@ in-group-spec =
     (λ c. search needs)
     (λ c. search needs)
     (λ c κs. search needs)
-    (λ c κs. (search needs, got-count _ _ _ _ 4 (c .before .read .ensures) (c .before .before .before .before .before .before .pre .1) (lit< tt)))
+    (λ c κs. (search needs, got-held _ _ _ _ 4 (c .before .read .ensures) (c .before .before .before .before .before .before .pre .1) (lit< tt)))
     (λ c.
     let branch = c .before .before .before .before in
     let start = branch .before .before .before in

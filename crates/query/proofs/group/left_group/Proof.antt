@@ -4,7 +4,7 @@ use lib.Dec.{lit<}
 use borrow.Author.Needs.{needs}
 use borrow.Author.Tests.{eqb-true, eqb-false}
 use Rattle.answers.specs.Steps.{leftGroup}
-use Rattle.query.proofs.Walking.{steps, got-count}
+use Rattle.query.proofs.Walking.{steps, got-held}
 use Rattle.query.proofs.group.left_group.Statement.{statement}
 use Rattle.query.proofs.group.left_group.Tie as tie
 
@@ -19,5 +19,5 @@ left-group-spec =
     (λ c. search needs)
     (λ c. search needs)
     (λ c κs. search needs)
-    (λ c κs. (search needs, got-count _ _ _ _ 5 (c .before .read .ensures) (c .before .before .before .before .before .before .before .pre .1) (lit< tt)))
+    (λ c κs. (search needs, got-held _ _ _ _ 5 (c .before .read .ensures) (c .before .before .before .before .before .before .before .pre .1) (lit< tt)))
     (λ c depth e. let q = eqb-false depth _ (sym e ∙ c .before .before .before .before .if2 .left) in search steps))

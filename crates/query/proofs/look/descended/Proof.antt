@@ -2,7 +2,7 @@
 use lib.Dec.{lit<}
 use borrow.Author.Needs.{needs}
 use Rattle.answers.specs.Steps.{descended}
-use Rattle.query.proofs.Walking.{steps, got-count}
+use Rattle.query.proofs.Walking.{steps, got-held}
 use Rattle.query.proofs.look.descended.Statement.{statement}
 use Rattle.query.proofs.look.descended.Tie as tie
 
@@ -15,5 +15,5 @@ descended-spec =
     (λ c. search needs)
     (λ c. search needs)
     (λ c κs. search needs)
-    (λ c κs. (search needs, search needs, got-count _ _ _ _ 2 (c .before .read .ensures) (c .before .before .before .before .before .pre .3) (lit< tt)))
+    (λ c κs. (search needs, search needs, got-held _ _ _ _ 2 (c .before .read .ensures) (c .before .before .before .before .before .pre .3) (lit< tt)))
     (λ c. search steps))

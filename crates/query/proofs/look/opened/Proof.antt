@@ -1,5 +1,6 @@
 -- `look::opened` meets its contract. Assumes nothing.
-use mathlib.Core.Path.{_≡_, refl, ap}
+use mathlib.Core.Path.{_≡_, refl}
+use mathlib.Core.List.{[]}
 use borrow.Author.Needs.{needs}
 use denote.Ref.{now}
 use lib.Dec.{lit<}
@@ -8,7 +9,7 @@ use Rattle.answers.specs.Answers.{listed, answerFrom}
 use Rattle.answers.specs.Steps.{counted, opened}
 use Rattle.query.specs.Parts.{openFrom}
 use Rattle.query.proofs.Opening.{count-room, count-goes}
-use Rattle.query.proofs.Walking.{steps, got-count}
+use Rattle.query.proofs.Walking.{steps, got-held}
 use Rattle.query.proofs.look.opened.Statement.{statement}
 use Rattle.query.proofs.look.opened.Tie as tie
 
@@ -26,7 +27,7 @@ opened-spec =
     let t = now (c .before .before .before .before .before .before .args .table) in
     record {
       room = rw (c .before .counted .ensures) (count-room t (got .word));
-      one = λ h. got-count got _ _ _ 0 (c .before .before .read .ensures) (ap (λ cs. cs .count) (c .before .before .before .before .new .ensures)) (lit< tt);
+      one = λ h. got-held got _ _ _ 0 (c .before .before .read .ensures) (record { list = []; long = refl; is = c .before .before .before .before .new .ensures }) (lit< tt);
       goes = λ next.
           let rest : openFrom t (record { n = c .before .counted .result; cells = got .cells }) next ≡ answerFrom t (got .cells) (counted (length t) (got .word) next) =
           rw (c .before .counted .ensures) (count-goes t (got .cells) (got .word) next) in

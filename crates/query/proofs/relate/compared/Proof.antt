@@ -2,12 +2,13 @@
 use mathlib.Core.Path.{_≡_, refl}
 use mathlib.Core.Bool.{true}
 use denote.Ref.{now}
+use lib.Dec.{lit<}
 use borrow.Author.Needs.{needs}
 use Rattle.answers.specs.Answers.{answerFrom}
 use Rattle.answers.specs.Steps.{compared, related}
 use Rattle.query.specs.Parts.{relatedFrom}
 use Rattle.query.proofs.Relating.{compared-goes}
-use Rattle.query.proofs.Walking.{steps}
+use Rattle.query.proofs.Walking.{steps, got-held}
 use Rattle.query.proofs.relate.compared.Statement.{statement}
 use Rattle.query.proofs.relate.compared.Tie as tie
 
@@ -29,13 +30,16 @@ compared-spec =
     (λ c. search needs)
     (λ c κs. search needs)
     (λ c κs. search needs)
-    (λ c. (
-      refl,
+    (λ c.
+    let third = c .before .before in
+    let second = third .before .before .before in
+    let first = second .before .before .before in
+    let start = first .before .before .before in (
+      (
+        refl,
+        got-held _ _ _ _ 3 (third .read3 .ensures) (got-held _ _ _ _ 2 (second .read2 .ensures) (got-held _ _ _ _ 1 (first .read .ensures) (start .pre .3) (lit< tt)) (lit< tt)) (lit< tt),
+      ),
       λ above apart.
-          let third = c .before .before in
-          let second = third .before .before .before in
-          let first = second .before .before .before in
-          let start = first .before .before .before in
           let t = now (start .args .table) in
           let last : relatedFrom t (record { number = 0; n = start .args .n; above = c .holds .result; word = 0; cells = third .read3 .result .cells }) above apart
           ≡ answerFrom t (third .read3 .result .cells) (compared (above (start .args .n)) apart (first .read .result .word) (second .read2 .result .word) (third .read3 .result .word)) =

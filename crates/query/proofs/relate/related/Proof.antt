@@ -15,4 +15,4 @@ related-spec =
     (λ c. (λ e. absurd (omega arith), λ above apart. unfold relatedFrom in search steps))
     (λ c. (λ e. absurd (omega arith), λ above apart. unfold relatedFrom in search steps))
     (λ c κs. search needs)
-    (λ c. (λ e. (c .compared .ensures .0, search needs), c .compared .ensures .1)))
+    (λ c. (λ e. let known = c .compared .ensures .0 in (known .0, search needs, known .1), c .compared .ensures .1)))

@@ -16,8 +16,8 @@ stand-spec =
     (λ c.
     let count = c .before .before .opened in
     (λ e. absurd (omega arith), λ above apart. unfold relatedFrom in (sym (open-broken _ (count .result) _ (c .if1 .taken)) ∙ count .ensures .goes _)))
-    (λ c κs. c .before .before .opened .ensures .room (c .if1 .left))
+    (λ c κs. let count = c .before .before .opened in (count .ensures .room (c .if1 .left), count .ensures .one (c .if1 .left)))
     (λ c.
     let test = c .before in
     let count = test .before .before .opened in
-    (λ e. let (s, h) = c .related .ensures .0 e in (rw s (count .ensures .room (test .if1 .left)), rw s h), λ above apart. opened-related _ (count .result) _ _ _ above apart (count .ensures) (test .if1 .left) (c .related .ensures .1 above apart))))
+    (λ e. let (s, h, l) = c .related .ensures .0 e in (rw s (count .ensures .room (test .if1 .left)), rw s h, l), λ above apart. opened-related _ (count .result) _ _ _ above apart (count .ensures) (test .if1 .left) (c .related .ensures .1 above apart))))
