@@ -1,4 +1,4 @@
--- LADPOS by position: whether a long path starts at a position, and the words one position further. Assumes nothing.
+-- Arrays by position, the entry above a position, and whether a long path starts there. Assumes nothing.
 use mathlib.Core.Path.{_≡_, refl, sym, ap, _∙_}
 use mathlib.Core.List.{List, [], _∷_, map}
 use mathlib.Core.Bool.{Bool, true, false}
@@ -21,7 +21,7 @@ use Rattle.climbs.proofs.OwnPaths.{topsWithin}
 use Rattle.climbs.proofs.Ladders.{rise, rungsWithin, ladpos-next, ladpos-in}
 use Rattle.climbs.proofs.Room.{ladders-fit}
 use Rattle.climbs.proofs.Running.{tops-more, tops-same, tops-none, tops-all, rungs-more, rungs-same, rungs-none, rungs-all, rungs-fit, ladpos-met}
-use Rattle.fill.specs.Arrays.{abovePosition, longPosition, Paths, Runs, Laid}
+use Rattle.fill.specs.Arrays.{abovePosition, longPosition, Paths}
 use Rattle.fill.proofs.Spreading.{array-at, Ran, ran-none, ran-more, ran-map}
 
 -- the entry above v, which stands earlier
@@ -120,93 +120,3 @@ module _ (ps long above : List ℕ) (p : Paths ps long above) where
 
     pub top-is : (getD long (getD above i 0) 0 ≡ i → ⊥) → true ≡ pathTop ps (getD (order ps) i 0)
     top-is n = sym (top-yes ps (p .few) (p .tree) i within upper (λ e. n (long-word ∙ e)))
-
--- LADPOS of the first i positions, with the paths and the words of their ladders
-pub record Laying (ps old : List ℕ) (i paths words : ℕ) (places : List ℕ) : Type 0 where
-  pub paths-are : paths ≡ length (topsWithin ps i)
-  pub words-are : words ≡ rungsWithin ps i
-  pub placed : Ran (λ k. ladPos ps (getD (order ps) k 0)) old i places
-
-module _ (ps deep high long above : List ℕ) (r : Runs ps deep high long above) (old : List ℕ) (room : length old ≡ length deep) where
-  few : length ps ≤ mostEntries
-  few = r .paths .few
-
-  tree : Tree ps
-  tree = r .paths .tree
-
-  pub deep-length : length deep ≡ length ps
-  deep-length = array-length ps few tree (depth ps) deep (r .depths)
-
-  pub high-length : length high ≡ length ps
-  high-length = array-length ps few tree (height ps) high (r .heights)
-
-  pub lay-none : Laying ps old 0 0 0 old
-  lay-none = record { paths-are = sym (ap length (tops-none ps (omega (arith, few)) tree)); words-are = sym (rungs-none ps (omega (arith, few)) tree); placed = ran-none _ old }
-
-  pub lay-end : (i paths words : ℕ) (places : List ℕ) → i ≡ length deep → Laying ps old i paths words places → Laid ps paths words places
-  lay-end i paths words places e l =
-      let n : i ≡ length ps = omega (arith, deep-length) in
-      record {
-        paths-are = l .paths-are ∙ ap (λ j. length (topsWithin ps j)) n ∙ ap length (tops-all ps (omega (arith, few)) tree);
-        words-are = l .words-are ∙ ap (rungsWithin ps) n ∙ rungs-all ps (omega (arith, few)) tree;
-        places-are = ran-map ps few tree (ladPos ps) old i places (room ∙ deep-length) (omega arith) (l .placed);
-      }
-
-  module _ (i paths words : ℕ) (places : List ℕ) (h : i < length deep) (l : Laying ps old i paths words places) where
-    abbrev v : ℕ
-    v = getD (order ps) i 0
-
-    b : i < length ps
-    b = omega (arith, deep-length)
-
-    pub paths-small : paths ≤ i
-    paths-small = omega (arith, l .paths-are, keep-most (pathTop ps) (take i (order ps)), length-take i (order ps))
-
-    -- where a long path starts
-    module _ (t : pathTop ps (getD (order ps) i 0) ≡ true) where
-      up-word : min (getD high i 0) (getD deep i 0) ≡ rise ps v
-      up-word = rw (array-word ps few tree (height ps) high (r .heights) i b, array-word ps few tree (depth ps) deep (r .depths) i b)
-
-      words-next : rungsWithin ps (i + 1) ≡ words + min (getD high i 0) (getD deep i 0) + getD high i 0
-      words-next =
-          let q = rungs-more ps (omega (arith, few)) tree i v b refl t in
-          rw (add-one i) (omega (arith, q, l .words-are, up-word, array-word ps few tree (height ps) high (r .heights) i b))
-
-      pub words-small : words + min (getD high i 0) (getD deep i 0) + getD high i 0 ≤ 2097152
-      words-small = omega (arith, words-next, rungs-fit ps (omega (arith, few)) tree (i + 1) (omega (arith, b)), few)
-
-      pub lay-top : (own : ℕ) → own ≡ words + min (getD high i 0) (getD deep i 0) → Laying ps old (i + 1) (paths + 1) (own + getD high i 0) (set places i own)
-      lay-top own e =
-          record {
-            paths-are = rw (add-one i, tops-more ps (omega (arith, few)) tree i v b refl t) (omega (arith, length-append (topsWithin ps i) (v ∷ []), l .paths-are));
-            words-are = rw words-next (omega (arith, e));
-            placed = ran-more _ old i places own (omega (arith, room)) (e ∙ sym (ladpos-met ps (omega (arith, few)) tree i v b refl t ∙ omega (arith, l .words-are, up-word))) (l .placed);
-          }
-
-    -- where one goes on
-    module _ (t : pathTop ps (getD (order ps) i 0) ≡ false) where
-      upper-one : Over ps v
-      upper-one =
-          let (p, q, k) = path-top-no ps (omega (arith, few)) tree v t (order-in ps (omega (arith, few)) tree i b) in
-          over-of ps few tree v p q
-
-      word-is : getD above i 0 ≡ position ps (upper-one .over)
-      word-is = array-word ps few tree (abovePosition ps) above (r .paths .aboves) i b ∙ upper-one .word
-
-      pub word-less : getD above i 0 < i
-      word-less = omega (arith, word-is, upper-one .earlier, position-of ps (omega (arith, few)) tree i b)
-
-      place-is : getD places (getD above i 0) 0 ≡ ladPos ps (upper-one .over)
-      place-is = l .placed .1 (getD above i 0) word-less ∙ ap (ladPos ps) (ap (λ j. getD (order ps) j 0) word-is ∙ at-position ps (omega (arith, few)) tree (upper-one .over) (upper-one .inside))
-
-      pub place-small : getD places (getD above i 0) 0 ≤ 2097152
-      place-small = omega (arith, place-is, ladpos-in ps (omega (arith, few)) tree (upper-one .over) (upper-one .inside), ladders-fit ps (omega (arith, few)) tree, few)
-
-      pub lay-next : Laying ps old (i + 1) paths words (set places i (getD places (getD above i 0) 0 + 1))
-      lay-next =
-          let q = ladpos-next ps (omega (arith, few)) tree v (upper-one .over) (upper-one .parent-is) t in
-          record {
-            paths-are = rw (add-one i, tops-same ps (omega (arith, few)) tree i v b refl t) (l .paths-are);
-            words-are = rw (add-one i, rungs-same ps (omega (arith, few)) tree i v b refl t) (l .words-are);
-            placed = ran-more _ old i places _ (omega (arith, room)) (omega (arith, place-is, q)) (l .placed);
-          }

@@ -9,3 +9,4 @@ pub mod Leaping
 pub mod Doubling
 pub mod Nearing
 pub mod Hanging
+pub mod Standing

@@ -1,5 +1,5 @@
 -- LADDERS: the ancestors before a path top's own word, one climb further, and every word that is right stays right. Assumes nothing.
-use mathlib.Core.Path.{_≡_, refl, sym, ap, _∙_}
+use mathlib.Core.Path.{_≡_, refl, sym, ap, subst, _∙_}
 use mathlib.Core.List.{List, flatten}
 use mathlib.Core.Bool.{true, false}
 use mathlib.Core.Option.{some, Option·some-injective}
@@ -18,10 +18,11 @@ use Rattle.tree.proofs.Climbing.{entry-in, entry-some, up-first, up-add}
 use Rattle.tree.proofs.Depths.{up-some}
 use Rattle.tree.proofs.Positions.{order-length, position-in, at-position, order-in}
 use Rattle.table.specs.Ladders.{ladders, ladPos}
+use Rattle.table.specs.Table.{ladderCells}
 use Rattle.climbs.proofs.Ladders.{rise, ladpos-top, ladpos-in, ladder-own, lemma-5}
 use Rattle.climbs.proofs.Room.{ladders-fit}
 use Rattle.climbs.proofs.Filling.{filled}
-use Rattle.fill.specs.Arrays.{entryAt, abovePosition, Climbs, Risen, Rungs, Laddered}
+use Rattle.fill.specs.Arrays.{entryAt, abovePosition, Climbs, Risen}
 use Rattle.fill.proofs.Laddering.{array-length, array-word, above-parent}
 
 -- so many climbs up, at a position
@@ -66,6 +67,9 @@ module _ (ps ord above : List ℕ) (c : Climbs ps ord above) where
 
 pub risen-none : (ps : List ℕ) (v place : ℕ) (old : List ℕ) → Risen ps v place 0 old old
 risen-none ps v place old = record { same = refl; before = λ j h. refl; behind = λ j h. refl; words = λ k u a b. absurd (omega arith) }
+
+pub risen-by : {ps : List ℕ} {v place : ℕ} {old new : List ℕ} (j k : ℕ) → j ≡ k → Risen ps v place j old new → Risen ps v place k old new
+risen-by {ps} {v} {place} {old} {new} j k e r = subst (λ m. Risen ps v place m old new) e r
 
 -- one word more, before those so far
 pub risen-more : (ps : List ℕ) (v place k : ℕ) (old new : List ℕ) (x : ℕ) → k < place → place ≤ length old → up ps (k + 1) v ≡ some x → Risen ps v place k old new
@@ -116,8 +120,7 @@ module _ (ps : List ℕ) (small : length ps ≤ topMark) (tree : Tree ps) where
       go j (yes l) = getD-replicate n j 0 0 l
       go j (no l) = List·getD-eq-default (replicate {A = ℕ} n 0) 0 (omega (arith, length-replicate {A = ℕ} n 0))
 
-  pub fill-end : (cells : List ℕ) → Filling ps (length ps) cells → Laddered ps cells
-  unfolding Laddered
+  pub fill-end : (cells : List ℕ) → Filling ps (length ps) cells → cells ≡ ladderCells ps
   fill-end cells s = filled ps small tree cells (s .size) own over (λ j h b. s .past j h ∙ List·getD-eq-default (flatten (ladders ps)) 0 h)
     where
       own : (v : ℕ) → v < length ps → getD cells (ladPos ps v) 0 ≡ v
@@ -175,61 +178,9 @@ module _ (ps : List ℕ) (small : length ps ≤ topMark) (tree : Tree ps) where
               let z : ladPos ps v - (ladPos ps v - j) ≡ j = omega arith in
               rw z at (risen-here (ladPos ps v - j) (omega arith) (omega arith))
 
-    pub fill-top : (cells new : List ℕ) → Filling ps i cells → Risen ps v (ladPos ps v) (rise ps v) (set cells (ladPos ps v) v) new → Filling ps (i + 1) new
-    fill-top cells new s r = fill-more cells new s (r .same ∙ length-set cells (ladPos ps v) v) (λ j q. risen-keeps (set cells (ladPos ps v) v) new r j (own-right cells s j q))
-        (risen-keeps (set cells (ladPos ps v) v) new r (ladPos ps v) (own-here cells s)) (λ e. risen-here (set cells (ladPos ps v) v) new r)
-
--- the same from the arrays
-module _ (ps ord places deep high long above : List ℕ) (r : Rungs ps ord places deep high long above) where
-  few : length ps ≤ mostEntries
-  few = r .runs .paths .few
-
-  tree-of : Tree ps
-  tree-of = r .runs .paths .tree
-
-  pub climbs-of : Climbs ps ord above
-  climbs-of = record { few = few; tree = tree-of; order-is = r .order-is; aboves = r .runs .paths .aboves }
-
-  pub rungs-length : length ord ≡ length ps
-  rungs-length = ord-length ps ord above climbs-of
-
-  pub places-length : length places ≡ length ord
-  places-length = array-length ps few tree-of (ladPos ps) places (r .places-are) ∙ sym rungs-length
-
-  pub depths-length : length deep ≡ length ord
-  depths-length = array-length ps few tree-of (depth ps) deep (r .runs .depths) ∙ sym rungs-length
-
-  pub heights-length : length high ≡ length ord
-  heights-length = array-length ps few tree-of (height ps) high (r .runs .heights) ∙ sym rungs-length
-
-  pub uppers-length : length above ≡ length ord
-  uppers-length = overs-length ps ord above climbs-of ∙ sym rungs-length
-
-  module _ (i : ℕ) (h : i < length ord) where
-    pub place-word : getD places i 0 ≡ ladPos ps (entryAt ps i)
-    place-word = array-word ps few tree-of (ladPos ps) places (r .places-are) i (omega (arith, rungs-length))
-
-    pub rise-word : min (getD high i 0) (getD deep i 0) ≡ rise ps (entryAt ps i)
-    rise-word = rw (array-word ps few tree-of (height ps) high (r .runs .heights) i (omega (arith, rungs-length)), array-word ps few tree-of (depth ps) deep (r .runs .depths) i (omega (arith, rungs-length)))
-
-    -- a path top's ancestors stand behind the section's start
-    pub rise-room : pathTop ps (entryAt ps i) ≡ true → min (getD high i 0) (getD deep i 0) ≤ getD places i 0
-    rise-room t =
-        let n : length ps ≤ topMark = omega (arith, few) in
-        omega (arith, rise-word, place-word, ladpos-top ps n tree-of (entryAt ps i) (order-in ps n tree-of i (omega (arith, rungs-length))) t)
-
-    pub write-room : (cells : List ℕ) → Filling ps i cells → getD places i 0 < length cells
-    write-room cells s = omega (arith, place-word, place-room ps (omega (arith, few)) tree-of i (omega (arith, rungs-length)) cells s)
-
-    own-cells : (cells : List ℕ) → set cells (getD places i 0) (getD ord i 0) ≡ set cells (ladPos ps (entryAt ps i)) (entryAt ps i)
-    own-cells cells = ap (λ j. set cells j (getD ord i 0)) place-word ∙ ap (set cells (ladPos ps (entryAt ps i))) (ap (λ l. getD l i 0) (r .order-is))
-
-    pub fill-next : (cells : List ℕ) → Filling ps i cells → pathTop ps (entryAt ps i) ≡ false → Filling ps (i + 1) (set cells (getD places i 0) (getD ord i 0))
-    fill-next cells s t = rw (own-cells cells) (fill-inner ps (omega (arith, few)) tree-of i (omega (arith, rungs-length)) cells s t)
-
-    pub fill-over : (cells new : List ℕ) (count : ℕ) → count ≡ min (getD high i 0) (getD deep i 0) → Filling ps i cells
-        → Risen ps (entryAt ps i) (getD places i 0) count (set cells (getD places i 0) (getD ord i 0)) new → Filling ps (i + 1) new
-    fill-over cells new count e s q =
-        let w : Risen ps (entryAt ps i) (ladPos ps (entryAt ps i)) (rise ps (entryAt ps i)) (set cells (ladPos ps (entryAt ps i)) (entryAt ps i)) new
-        = rw (own-cells cells, place-word, e ∙ rise-word) at q in
-        fill-top ps (omega (arith, few)) tree-of i (omega (arith, rungs-length)) cells new s w
+    pub fill-top : (cells mid : List ℕ) → Filling ps i cells → Risen ps v (ladPos ps v) (rise ps v) cells mid → Filling ps (i + 1) (set mid (ladPos ps v) v)
+    fill-top cells mid s r =
+        let room : ladPos ps v < length mid = omega (arith, r .same, place-room cells s) in
+        let own = sym (ladder-own ps small tree v hv) in
+        fill-more cells _ s (length-set mid (ladPos ps v) v ∙ r .same) (λ j q. right-set ps mid (ladPos ps v) v j room own (risen-keeps cells mid r j q))
+        (getD-set-same mid (ladPos ps v) v 0 room ∙ own) (λ e m a b. right-set ps mid (ladPos ps v) v (ladPos ps v - m) room own (risen-here cells mid r m a b))

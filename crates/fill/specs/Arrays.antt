@@ -2,9 +2,9 @@
 use mathlib.Core.Path.{_≡_}
 use mathlib.Core.List.{List, map, flatten}
 use mathlib.Core.Option.{some, Option·elim}
-use Prim.Native.Nat.{ℕ, _+_, _-_, _≤_, _<_}
+use Prim.Native.Nat.{ℕ, _+_, _*_, _-_, _≤_, _<_}
 use lib.ListN.{length, getD, take}
-use Rattle.base.specs.Limits.{mostEntries, groupLimit}
+use Rattle.base.specs.Limits.{mostEntries, groupLimit, spaceWords}
 use Rattle.base.specs.Lists.{below, view}
 use Rattle.tree.specs.Parents.{topMark, parent, up, depth}
 use Rattle.tree.specs.Forest.{size, height, order, position, longChild}
@@ -61,18 +61,6 @@ pub record Paths (ps long above : List ℕ) : Type 0 where
   pub longs : long ≡ map (longPosition ps) (order ps)
   pub aboves : above ≡ map (abovePosition ps) (order ps)
 
--- with DEPTH and HEIGHT
-pub record Runs (ps deep high long above : List ℕ) : Type 0 where
-  pub paths : Paths ps long above
-  pub depths : deep ≡ map (depth ps) (order ps)
-  pub heights : high ≡ map (height ps) (order ps)
-
--- LADPOS by position, with the numbers of long paths and of the words of their ladders
-pub record Laid (ps : List ℕ) (paths words : ℕ) (places : List ℕ) : Type 0 where
-  pub paths-are : paths ≡ length (pathTops ps)
-  pub words-are : words ≡ length (flatten (ladders ps))
-  pub places-are : places ≡ map (ladPos ps) (order ps)
-
 -- SIZE of a list that forms one tree
 pub record Families (ps sizes : List ℕ) : Type 0 where
   pub few : length ps ≤ mostEntries
@@ -99,15 +87,23 @@ pub record Risen (ps : List ℕ) (v place count : ℕ) (old new : List ℕ) : Ty
   pub behind : (j : ℕ) → place ≤ j → getD new j 0 ≡ getD old j 0
   pub words : (k u : ℕ) → 1 ≤ k → k ≤ count → up ps k v ≡ some u → getD new (place - k) 0 ≡ u
 
--- what LADDERS is laid from
-pub record Rungs (ps ord places deep high long above : List ℕ) : Type 0 where
-  pub runs : Runs ps deep high long above
-  pub order-is : ord ≡ order ps
-  pub places-are : places ≡ map (ladPos ps) (order ps)
+-- a working space with ORDER, DEPTH, ABOVE, HEIGHT and LONG by position in regions 0, 1, 3, 4 and 5, of a list that forms one tree
+pub record Upright (ps space : List ℕ) : Type 0 where
+  pub few : length ps ≤ mostEntries
+  pub tree : Tree ps
+  pub room : length space ≡ spaceWords (length ps)
+  pub orders : view 0 (length ps) space ≡ order ps
+  pub depths : view (length ps) (length ps) space ≡ map (depth ps) (order ps)
+  pub aboves : view (length ps * 3) (length ps) space ≡ map (abovePosition ps) (order ps)
+  pub heights : view (length ps * 4) (length ps) space ≡ map (height ps) (order ps)
+  pub longs : view (length ps * 5) (length ps) space ≡ map (longPosition ps) (order ps)
 
--- LADDERS
-unfoldable pub Laddered : List ℕ → List ℕ → Type 0
-Laddered ps cells = cells ≡ ladderCells ps
+-- with LADPOS by position in region 2, beside LADDERS and the number of long paths
+pub record Pathed (ps : List ℕ) (paths : ℕ) (space cells : List ℕ) : Type 0 where
+  pub upright : Upright ps space
+  pub paths-are : paths ≡ length (pathTops ps)
+  pub places-are : view (length ps * 2) (length ps) space ≡ map (ladPos ps) (order ps)
+  pub rungs-are : cells ≡ ladderCells ps
 
 -- what GROUPS is laid from
 pub record Members (ps ord deep sizes above : List ℕ) : Type 0 where

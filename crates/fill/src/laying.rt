@@ -1,11 +1,13 @@
 // LADPOS and LADDERS.
 ghost use mathlib.Core.Path.{_≡_};
+ghost use mathlib.Core.Bool.{true, false};
 ghost use mathlib.Core.List.{List};
-ghost use Prim.Native.Nat.{ℕ, _*_, _≤_, _<_, min};
-ghost use lib.ListN.{length};
+ghost use Prim.Native.Nat.{ℕ, _+_, _*_, _≤_, _<_, min};
+ghost use lib.ListN.{length, getD, set};
 ghost use Rattle.tree.specs.Parents.{depth};
-ghost use Rattle.tree.specs.Forest.{pathTop};
-ghost use Rattle.fill.specs.Arrays.{entryAt, Paths, Runs, Laid, Climbs, Risen, Rungs, Laddered};
+ghost use Rattle.tree.specs.Forest.{height, pathTop};
+ghost use Rattle.table.specs.Ladders.{ladPos};
+ghost use Rattle.fill.specs.Arrays.{entryAt, Climbs, Risen, Upright, Pathed};
 use crate::spread::set_all;
 use base::Position;
 
@@ -19,54 +21,18 @@ fn lesser(a: u32, b: u32) -> u32
 }
 
 // Whether a long path starts at a position.
-fn path_top(long: &[u32], above: &[u32], at: Position) -> bool
-    requires { ⌜ ((ps : List ℕ) × Paths ps (now long) (now above)) × (at .0 < length (now above)) ⌝ }
-    ensures { λ r. ⌜ ((ps : List ℕ) → Paths ps (now (long .entry)) (now (above .entry)) → r ≡ pathTop ps (entryAt ps (at .0))) ⌝ }
+fn path_top(n: usize, space: &[u32], at: Position) -> bool
+    requires { ⌜ ((ps : List ℕ) × Upright ps (now space) × (n ≡ length ps)) × (at .0 < n) ⌝ }
+    ensures { λ r. ⌜ ((ps : List ℕ) → Upright ps (now (space .entry)) → n ≡ length ps → r ≡ pathTop ps (entryAt ps (at .0))) ⌝ }
 {
     if at.0 == 0 {
         return true;
     }
-    let over = Position(above[at.0 as usize]);
-    if long[over.0 as usize] == at.0 {
+    let over = Position(space[n * 3 + at.0 as usize]);
+    if space[n * 5 + over.0 as usize] == at.0 {
         return false;
     }
     true
-}
-
-// The long paths, and the words of their ladders.
-pub struct Totals {
-    pub paths: u32,
-    pub words: u32,
-}
-
-// LADPOS by position: behind all ladders so far and the path's nearest ancestors, or behind the entry above.
-pub fn ladder_places(
-    depth: &[u32],
-    height: &[u32],
-    long: &[u32],
-    above: &[u32],
-    places: &mut [u32],
-) -> Totals
-    requires { ⌜ ((ps : List ℕ) × Runs ps (now depth) (now height) (now long) (now above)) × (length (now places) ≡ length (now depth)) ⌝ }
-    ensures { λ r. ⌜ ((ps : List ℕ) → Runs ps (now (depth .entry)) (now (height .entry)) (now (long .entry)) (now (above .entry)) → Laid ps (r .paths) (r .words) (now (places .exit))) ⌝ }
-{
-    let mut paths: u32 = 0;
-    let mut words: u32 = 0;
-    let mut next = Position(0);
-    while (next.0 as usize) < depth.len() {
-        let at = next;
-        next = Position(at.0 + 1);
-        if path_top(long, above, at) {
-            let own = words + lesser(height[at.0 as usize], depth[at.0 as usize]);
-            places[at.0 as usize] = own;
-            words = own + height[at.0 as usize];
-            paths += 1;
-        } else {
-            let over = Position(above[at.0 as usize]);
-            places[at.0 as usize] = places[over.0 as usize] + 1;
-        }
-    }
-    Totals { paths, words }
 }
 
 // The nearest ancestors of the entry at a position, so many, into the words before a place.
@@ -83,29 +49,59 @@ fn rise(order: &[u32], above: &[u32], top: Position, place: u32, count: u32, cel
     }
 }
 
-// LADDERS: each entry at its place, the nearest ancestors of each path's top before it, and zeros behind.
-pub fn ladders(
-    order: &[u32],
-    places: &[u32],
-    depth: &[u32],
-    height: &[u32],
-    long: &[u32],
-    above: &[u32],
-    cells: &mut [u32],
-)
-    requires { ⌜ ((ps : List ℕ) × Rungs ps (now order) (now places) (now depth) (now height) (now long) (now above)) × (length (now cells) ≡ 2 * length (now order)) ⌝ }
-    ensures { λ _. ⌜ ((ps : List ℕ) → Rungs ps (now (order .entry)) (now (places .entry)) (now (depth .entry)) (now (height .entry)) (now (long .entry)) (now (above .entry)) → Laddered ps (now (cells .exit))) ⌝ }
+// The place of a path's top, behind so many words and its nearest ancestors, which are written there.
+fn top_place(n: usize, space: &[u32], top: Position, words: u32, cells: &mut [u32]) -> u32
+    requires { ⌜ ((ps : List ℕ) × Upright ps (now space) × (n ≡ length ps) × (words + min (height ps (entryAt ps (top .0))) (depth ps (entryAt ps (top .0))) < length (now cells))) × (top .0 < n) × (length (now cells) ≤ 2097152) ⌝ }
+    ensures { λ r. ⌜ ((ps : List ℕ) → Upright ps (now (space .entry)) → n ≡ length ps → (r ≡ words + min (height ps (entryAt ps (top .0))) (depth ps (entryAt ps (top .0)))) × Risen ps (entryAt ps (top .0)) r (min (height ps (entryAt ps (top .0))) (depth ps (entryAt ps (top .0)))) (now (cells .entry)) (now (cells .exit))) ⌝ }
+{
+    let i = top.0 as usize;
+    let count = lesser(space[n * 4 + i], space[n + i]);
+    let place = words + count;
+    rise(&space[0..n], &space[n * 3..n * 4], top, place, count, cells);
+    place
+}
+
+// The place of an entry that its path goes on to, behind that of the entry above.
+fn next_place(n: usize, space: &[u32], at: Position) -> u32
+    requires { ⌜ ((ps : List ℕ) × Upright ps (now space) × (n ≡ length ps) × (pathTop ps (entryAt ps (at .0)) ≡ false) × ((k : ℕ) → k < at .0 → getD (now space) (n * 2 + k) 0 ≡ ladPos ps (entryAt ps k))) × (at .0 < n) ⌝ }
+    ensures { λ r. ⌜ ((ps : List ℕ) → Upright ps (now (space .entry)) → n ≡ length ps → pathTop ps (entryAt ps (at .0)) ≡ false → ((k : ℕ) → k < at .0 → getD (now (space .entry)) (n * 2 + k) 0 ≡ ladPos ps (entryAt ps k)) → r ≡ ladPos ps (entryAt ps (at .0))) ⌝ }
+{
+    let over = Position(space[n * 3 + at.0 as usize]);
+    space[n * 2 + over.0 as usize] + 1
+}
+
+// The entry at a position into its place, and the place into region 2.
+fn settle(n: usize, space: &mut [u32], at: Position, place: u32, cells: &mut [u32])
+    requires { ⌜ (length (now space) ≡ 6 * n) × (n ≤ 1048576) × (at .0 < n) × (place < length (now cells)) ⌝ }
+    ensures { λ _. ⌜ (now (space .exit) ≡ set (now (space .entry)) (n * 2 + at .0) place) × (now (cells .exit) ≡ set (now (cells .entry)) place (getD (now (space .entry)) (at .0) 0)) ⌝ }
+{
+    let i = at.0 as usize;
+    cells[place as usize] = space[i];
+    space[n * 2 + i] = place;
+}
+
+// LADPOS by position into region 2 of the working space, and LADDERS: each path's top behind all ladders so far and its own nearest ancestors, each
+// other entry behind the one above, and zeros behind all. Hands back how many long paths there are.
+pub fn paths(n: usize, space: &mut [u32], cells: &mut [u32]) -> u32
+    requires { ⌜ ((ps : List ℕ) × Upright ps (now space) × (n ≡ length ps)) × (length (now cells) ≡ 2 * n) ⌝ }
+    ensures { λ r. ⌜ ((ps : List ℕ) → Upright ps (now (space .entry)) → n ≡ length ps → Pathed ps r (now (space .exit)) (now (cells .exit))) ⌝ }
 {
     set_all(cells, 0);
+    let mut paths: u32 = 0;
+    let mut words: u32 = 0;
     let mut next = Position(0);
-    while (next.0 as usize) < order.len() {
-        let here = next;
-        next = Position(here.0 + 1);
-        let place = places[here.0 as usize];
-        cells[place as usize] = order[here.0 as usize];
-        if path_top(long, above, here) {
-            let count = lesser(height[here.0 as usize], depth[here.0 as usize]);
-            rise(order, above, here, place, count, cells);
+    while (next.0 as usize) < n {
+        let at = next;
+        next = Position(at.0 + 1);
+        if path_top(n, space, at) {
+            let own = top_place(n, space, at, words, cells);
+            settle(n, space, at, own, cells);
+            words = own + space[n * 4 + at.0 as usize];
+            paths += 1;
+        } else {
+            let place = next_place(n, space, at);
+            settle(n, space, at, place, cells);
         }
     }
+    paths
 }

@@ -12,7 +12,7 @@ use Rattle.tree.specs.Parents.{depth}
 use Rattle.tree.specs.Forest.{height, order}
 use Rattle.tree.specs.Faults.{Tree}
 use Rattle.table.specs.Ladders.{ladPos}
-use Rattle.fill.specs.Arrays.{Families, Members, Paths, Runs, Rungs, Indexes, abovePosition, longPosition}
+use Rattle.fill.specs.Arrays.{Families, Members, Upright, Pathed, Indexes}
 use Rattle.fill.proofs.Spreading.{order-indexes}
 use Rattle.fill.proofs.Laddering.{array-length}
 use Rattle.layout.specs.Stages.{Walked, Measured, Raised, Placing}
@@ -71,48 +71,15 @@ module _ (ps space : List ℕ) (w : Walked ps space) where
   pub indexes-of : (cells : List ℕ) → length cells ≡ length ps → Indexes (midOf 0 (length ps - 0) space) cells
   indexes-of cells e = order-indexes ps (w .few) (w .tree) _ cells (lent 0 (length ps) (length ps) space _ (omega arith) (w .orders)) e
 
-  runs-from : view (length ps * 3) (length ps) space ≡ map (abovePosition ps) (order ps)
-      → view (length ps * 4) (length ps) space ≡ map (height ps) (order ps)
-      → view (length ps * 5) (length ps) space ≡ map (longPosition ps) (order ps)
-      → Runs ps (midOf (length ps) (length ps * 2 - length ps) space) (midOf (length ps * 4) (length ps * 5 - length ps * 4) space) (midOf (length ps * 5) (length ps * 6 - length ps * 5) space) (midOf (length ps * 3) (length ps * 4 - length ps * 3) space)
-  runs-from above high long = record {
-    paths = record {
-      few = w .few;
-      tree = w .tree;
-      longs = lent (length ps * 5) (length ps * 6) (length ps) space _ (omega arith) long;
-      aboves = lent (length ps * 3) (length ps * 4) (length ps) space _ (omega arith) above;
-    };
-    depths = lent (length ps) (length ps * 2) (length ps) space _ (omega arith) (w .depths);
-    heights = lent (length ps * 4) (length ps * 5) (length ps) space _ (omega arith) high;
-  }
+pub upright-of : (ps space : List ℕ) → Raised ps space → Upright ps space
+upright-of ps space r =
+    let w = r .measured .walked in
+    record { few = w .few; tree = w .tree; room = w .room; orders = w .orders; depths = w .depths; aboves = r .measured .aboves; heights = r .heights; longs = r .longs }
 
-module _ (ps space : List ℕ) (r : Raised ps space) where
-  pub runs-of : Runs ps (midOf (length ps) (length ps * 2 - length ps) space) (midOf (length ps * 4) (length ps * 5 - length ps * 4) space) (midOf (length ps * 5) (length ps * 6 - length ps * 5) space) (midOf (length ps * 3) (length ps * 4 - length ps * 3) space)
-  runs-of = runs-from ps space (r .measured .walked) (r .measured .aboves) (r .heights) (r .longs)
-
-  -- the places in region 2
-  pub placing : Placing ps (put space (length ps * 2) (map (ladPos ps) (order ps)))
-  placing =
-      let w = r .measured .walked in
-      let x = map (ladPos ps) (order ps) in
-      let wide : length x ≡ length ps = array-length ps (w .few) (w .tree) (ladPos ps) x refl in
-      let fits : length ps * 2 + length x ≤ length space = omega (arith, w .room) in
-      record {
-        walked = walked-put ps space (length ps * 2) x (omega arith) (omega arith) w;
-        places = put-view space (length ps * 2) x fits (length ps) wide;
-        aboves = put-behind space (length ps * 2) x fits (length ps * 3) (length ps) (omega arith) ∙ r .measured .aboves;
-        heights = put-behind space (length ps * 2) x fits (length ps * 4) (length ps) (omega arith) ∙ r .heights;
-        longs = put-behind space (length ps * 2) x fits (length ps * 5) (length ps) (omega arith) ∙ r .longs;
-      }
-
-module _ (ps space : List ℕ) (p : Placing ps space) where
-  pub rungs-of : Rungs ps (midOf 0 (length ps - 0) space) (midOf (length ps * 2) (length ps * 3 - length ps * 2) space) (midOf (length ps) (length ps * 2 - length ps) space) (midOf (length ps * 4) (length ps * 5 - length ps * 4) space)
-      (midOf (length ps * 5) (length ps * 6 - length ps * 5) space) (midOf (length ps * 3) (length ps * 4 - length ps * 3) space)
-  rungs-of = record {
-    runs = runs-from ps space (p .walked) (p .aboves) (p .heights) (p .longs);
-    order-is = lent 0 (length ps) (length ps) space _ (omega arith) (p .walked .orders);
-    places-are = lent (length ps * 2) (length ps * 3) (length ps) space _ (omega arith) (p .places);
-  }
+pub placing : (ps : List ℕ) (paths : ℕ) (space cells : List ℕ) → Pathed ps paths space cells → Placing ps space
+placing ps paths space cells p =
+    let u = p .upright in
+    record { walked = record { few = u .few; tree = u .tree; room = u .room; orders = u .orders; depths = u .depths }; places = p .places-are }
 
 module _ (ps space : List ℕ) (m : Measured ps space) where
   pub families-of : Families ps (midOf (length ps * 2) (length ps * 3 - length ps * 2) space)

@@ -38,9 +38,6 @@ pub record Raised (ps space : List ℕ) : Type 0 where
 pub record Placing (ps space : List ℕ) : Type 0 where
   pub walked : Walked ps space
   pub places : view (length ps * 2) (length ps) space ≡ map (ladPos ps) (order ps)
-  pub aboves : view (length ps * 3) (length ps) space ≡ map (abovePosition ps) (order ps)
-  pub heights : view (length ps * 4) (length ps) space ≡ map (height ps) (order ps)
-  pub longs : view (length ps * 5) (length ps) space ≡ map (longPosition ps) (order ps)
 
 -- KIND, SIZE and GROUPS
 pub record Familied (ps table : List ℕ) : Type 0 where

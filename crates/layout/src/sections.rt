@@ -63,56 +63,30 @@ pub(crate) fn family_sections(parents: &[u32], table: &mut [u32], space: &mut [u
     counts
 }
 
-// LADPOS, which region 2 then has by position; hands back how many long paths there are.
-fn place_section(parents: &[u32], table: &mut [u32], space: &mut [u32]) -> u32
+// LADDERS, with LADPOS by position in region 2; hands back how many long paths there are.
+fn ladder_section(parents: &[u32], table: &mut [u32], space: &mut [u32]) -> u32
     requires { ⌜ Raised (now parents) (now space) × (length (now table) ≡ tableWords (length (now parents))) ⌝ }
     ensures paths { λ r. ⌜ r ≡ length (pathTops (now (parents .entry))) ⌝ }
     ensures kept { λ _. ⌜ Placing (now (parents .entry)) (now (space .exit)) ⌝ }
-    ensures laid { λ _. ⌜ now (table .exit) ≡ put (now (table .entry)) (4 + length (now (parents .entry)) * 2) (below (length (now (parents .entry))) (ladPos (now (parents .entry)))) ⌝ }
-{
-    let n = parents.len();
-    let a = 4 + n * 2;
-    let b = a + n;
-    let totals = fill::laying::ladder_places(
-        &space[n..n * 2],
-        &space[n * 4..n * 5],
-        &space[n * 5..n * 6],
-        &space[n * 3..n * 4],
-        &mut table[a..b],
-    );
-    turn(parents, table, a, space, n * 2);
-    totals.paths
-}
-
-// LADDERS.
-fn ladder_section(parents: &[u32], table: &mut [u32], space: &[u32])
-    requires { ⌜ Placing (now parents) (now space) × (length (now table) ≡ tableWords (length (now parents))) ⌝ }
-    ensures { λ _. ⌜ now (table .exit) ≡ put (now (table .entry)) (4 + length (now (parents .entry)) * 6) (ladderCells (now (parents .entry))) ⌝ }
+    ensures laid { λ _. ⌜ now (table .exit) ≡ put (now (table .entry)) (4 + length (now (parents .entry)) * 6) (ladderCells (now (parents .entry))) ⌝ }
 {
     let n = parents.len();
     let a = 4 + n * 6;
     let b = a + n * 2;
-    fill::laying::ladders(
-        &space[0..n],
-        &space[n * 2..n * 3],
-        &space[n..n * 2],
-        &space[n * 4..n * 5],
-        &space[n * 5..n * 6],
-        &space[n * 3..n * 4],
-        &mut table[a..b],
-    );
+    fill::laying::paths(n, space, &mut table[a..b])
 }
 
-// LADPOS and LADDERS, beside the sections that stand; hands back how many long paths there are. The table's cells of DEPTH serve on the way.
+// LADDERS and LADPOS, beside the sections that stand; hands back how many long paths there are. The table's cells of DEPTH serve on the way.
 pub(crate) fn path_sections(parents: &[u32], table: &mut [u32], space: &mut [u32]) -> u32
     requires { ⌜ Measured (now parents) (now space) × (length (now table) ≡ tableWords (length (now parents))) × Familied (now parents) (now table) ⌝ }
     ensures paths { λ r. ⌜ r ≡ length (pathTops (now (parents .entry))) ⌝ }
     ensures kept { λ _. ⌜ Walked (now (parents .entry)) (now (space .exit)) ⌝ }
     ensures laid { λ _. ⌜ Familied (now (parents .entry)) (now (table .exit)) × Laddered (now (parents .entry)) (now (table .exit)) ⌝ }
 {
+    let n = parents.len();
     raise(parents, table, space);
-    let paths = place_section(parents, table, space);
-    ladder_section(parents, table, space);
+    let paths = ladder_section(parents, table, space);
+    by_entry(parents, space, n * 2, table, 4 + n * 2);
     paths
 }
 

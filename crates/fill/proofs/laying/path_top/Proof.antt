@@ -2,34 +2,45 @@
 use mathlib.Core.Path.{sym, ap, _∙_}
 use native.Mathlib.Omega.{arith}
 use borrow.Author.Needs.{needs}
-use lib.ListN.{getD}
-use Rattle.tree.specs.Forest.{order, pathTop}
-use Rattle.fill.proofs.Laddering.{above-length, long-length, top-start, above-less, top-no, top-is}
+use Rattle.tree.specs.Forest.{pathTop}
+use Rattle.fill.specs.Arrays.{entryAt}
+use Rattle.fill.proofs.Standing.{wide, starts-first, over-less, starts-no, starts-yes}
 use Rattle.fill.proofs.laying.path_top.Statement.{statement}
 use Rattle.fill.proofs.laying.path_top.Tie as tie
 
 returns : tie.Need-returns
-returns c ps p =
+returns c ps u e =
     let s = c .before .before in
-    top-start ps (s .args .long .now) (s .args .above .now) p (omega (arith, s .pre .1)) ∙ ap (λ i. pathTop ps (getD (order ps) i 0)) (sym (c .if1 .taken))
+    starts-first ps (s .args .space .now) (s .args .n) u e (omega (arith, s .pre .1)) ∙ ap (λ i. pathTop ps (entryAt ps i)) (sym (c .if1 .taken))
 
-shared-slice-read-if2-2 : tie.Need-shared-slice-read-if2-2
-shared-slice-read-if2-2 c =
+read-over : tie.Need-shared-slice-read-if2
+read-over c =
+    let s = c .before .before .before .before in
+    let (ps, u, e) = s .pre .0 in
+    omega (arith, wide ps (s .args .space .now) (s .args .n) u e, s .pre .1)
+
+add-over : tie.Need-add-if2-2
+add-over c =
+    let s = c .before .before .before .before .before in
+    let (ps, u, e) = s .pre .0 in
+    let few = u .few in
+    omega (arith, over-less ps (s .args .space .now) (s .args .n) u e (s .args .at .0) (omega arith) (s .pre .1), few, e)
+
+read-long : tie.Need-shared-slice-read-if2-2
+read-long c =
     let s = c .before .before .before .before .before .before in
-    let long = s .args .long .now in
-    let above = s .args .above .now in
-    let (ps, p) = s .pre .0 in
-    omega (arith, above-less ps long above p (s .args .at .0) (omega arith) (s .pre .1), above-length ps long above p, long-length ps long above p)
+    let (ps, u, e) = s .pre .0 in
+    omega (arith, over-less ps (s .args .space .now) (s .args .n) u e (s .args .at .0) (omega arith) (s .pre .1), wide ps (s .args .space .now) (s .args .n) u e)
 
 returns-2 : tie.Need-returns-2
-returns-2 c ps p =
+returns-2 c ps u e =
     let s = c .before .before .before .before .before .before .before .before in
-    top-no ps (s .args .long .now) (s .args .above .now) p (s .args .at .0) (omega arith) (s .pre .1) (c .if2 .taken)
+    starts-no ps (s .args .space .now) (s .args .n) u e (s .args .at .0) (omega arith) (s .pre .1) (c .if2 .taken)
 
 returns-3 : tie.Need-returns-3
-returns-3 c ps p =
+returns-3 c ps u e =
     let s = c .before .before .before .before .before .before .before .before in
-    top-is ps (s .args .long .now) (s .args .above .now) p (s .args .at .0) (omega arith) (s .pre .1) (c .if2 .left)
+    starts-yes ps (s .args .space .now) (s .args .n) u e (s .args .at .0) (omega arith) (s .pre .1) (c .if2 .left)
 
 pub path-top-spec : {M : Type 1} → statement M
 path-top-spec =
@@ -40,7 +51,11 @@ path-top-spec =
     (λ c. search needs)
     (λ c. search needs)
     (λ c. search needs)
+    read-over
     (λ c. search needs)
-    shared-slice-read-if2-2
+    (λ c. search needs)
+    add-over
+    (λ c. search needs)
+    read-long
     returns-2
     returns-3)

@@ -1,81 +1,97 @@
 -- `sections::ladder_section` meets its contract. Assumes nothing.
-use mathlib.Core.Path.{ap, _∙_}
-use Prim.Native.Nat.{_+_, _*_, _≤_}
+use mathlib.Core.Path.{refl, ap, _∙_}
+use Prim.Native.Nat.{_+_, _*_}
 use native.Mathlib.Omega.{arith}
 use borrow.Author.Needs.{needs}
 use borrow.Rule.Slice.PartMut.{mid-len}
 use lib.ListN.{length}
 use Rattle.base.proofs.Puts.{lent-back}
-use Rattle.fill.specs.Arrays.{Laddered}
-use Rattle.layout.proofs.Staging.{rungs-of}
+use Rattle.layout.proofs.Staging.{upright-of, placing}
 use Rattle.layout.proofs.sections.ladder_section.Statement.{statement}
 use Rattle.layout.proofs.sections.ladder_section.Tie as tie
+use Rattle.layout.proofs.sections.ladder_section.Reads as reads
+use Rattle.layout.proofs.sections.ladder_section.Lts as lts
+use Rattle.fill.proofs.laying.paths.Reads as paths-reads
 
-ladders-requires : tie.Need-ladders-requires
-ladders-requires c κs =
+-- src/sections.rt:74:17
+mul-a : tie.Need-mul-a
+mul-a c = search needs
+
+-- src/sections.rt:74:13
+add-a : tie.Need-add-a
+add-a c = search needs
+
+-- src/sections.rt:75:17
+mul-b : tie.Need-mul-b
+mul-b c = search needs
+
+-- src/sections.rt:75:13
+add-b : tie.Need-add-b
+add-b c = search needs
+
+-- src/sections.rt:76:35
+mul-paths : tie.Need-mul-paths
+mul-paths c = search needs
+
+-- src/sections.rt:76:35
+sub-paths : tie.Need-sub-paths
+sub-paths c = search needs
+
+-- src/sections.rt:76:35
+part-paths-start : tie.Need-part-paths-start
+part-paths-start c = search needs
+
+-- src/sections.rt:76:35
+part-paths-end : tie.Need-part-paths-end
+part-paths-end c = search needs
+
+-- src/sections.rt:76:5
+paths-requires : tie.Need-paths-requires
+paths-requires c κs =
+    let s = c .before .before .before .before .before in
+    let ps = s .args .parents .now in
+    let n = length ps in (
+      (ps, upright-of ps (s .args .space .now) (s .pre .0), refl),
+      omega (arith, mid-len (4 + n * 6) (4 + n * 6 + n * 2) (s .args .table .now) (omega (arith, s .pre .1))),
+    )
+
+-- src/sections.rt:67:1
+same-length : tie.Need-same-length
+same-length c = search needs
+
+-- src/sections.rt:67:1
+same-length-2 : tie.Need-same-length-2
+same-length-2 c = search needs
+
+-- src/sections.rt:67:1
+returns : tie.Need-returns
+returns c =
     let s = c .before .before .before .before .before .before .before .before .before .before in
     let ps = s .args .parents .now in
     let n = length ps in
-    let xs = s .args .space .now in (
-      (ps, rungs-of ps xs (s .pre .0)),
-      omega (arith, mid-len (4 + n * 6) (4 + n * 6 + n * 2) (s .args .table .now) (omega (arith, s .pre .1)), mid-len 0 n xs (omega (arith, s .pre .0 .walked .room))),
+    let r = c .before .before .before .before .paths in
+    let laid = r .ensures ps (upright-of ps (s .args .space .now) (s .pre .0)) refl in
+    let same = r .kept .1 .1 .0 ∙ mid-len (4 + n * 6) (4 + n * 6 + n * 2) (s .args .table .now) (omega (arith, s .pre .1)) in (
+      laid .paths-are,
+      (
+        placing ps _ _ _ laid,
+        lent-back (4 + n * 6) (4 + n * 6 + n * 2) (s .args .table .now) _ _ (laid .rungs-are) (omega (arith, ap length (laid .rungs-are), same)),
+      ),
     )
-
-returns : tie.Need-returns
-unfolding Laddered
-returns c =
-    let s = c .before .before .before .before .before .before .before .before .before .before .before .before .before in
-    let ps = s .args .parents .now in
-    let n = length ps in
-    let r = c .before .before .ladders in
-    let laid = r .ensures ps (rungs-of ps (s .args .space .now) (s .pre .0)) in
-    let same = r .kept .1 .1 .1 .1 .1 .1 .0 ∙ mid-len (4 + n * 6) (4 + n * 6 + n * 2) (s .args .table .now) (omega (arith, s .pre .1)) in
-    lent-back (4 + n * 6) (4 + n * 6 + n * 2) (s .args .table .now) _ _ laid (omega (arith, ap length laid, same))
 
 pub ladder-section-spec : {M : Type 1} → statement M
 ladder-section-spec =
     tie.close
     (tie.spec
-    (λ c. search needs)
-    (λ c. search needs)
-    (λ c. search needs)
-    (λ c. search needs)
-    (λ c. search needs)
-    (λ c. search needs)
-    (λ c. search needs)
-    (λ c. search needs)
-    (λ c. search needs)
-    (λ c. search needs)
-    (λ c. search needs)
-    (λ c. search needs)
-    (λ c. search needs)
-    (λ c. search needs)
-    (λ c. search needs)
-    (λ c. search needs)
-    (λ c. search needs)
-    (λ c. search needs)
-    (λ c. search needs)
-    (λ c. search needs)
-    (λ c. search needs)
-    (λ c. search needs)
-    (λ c. search needs)
-    (λ c. search needs)
-    (λ c. search needs)
-    (λ c. search needs)
-    (λ c. search needs)
-    (λ c. search needs)
-    (λ c. search needs)
-    (λ c. search needs)
-    (λ c. search needs)
-    (λ c. search needs)
-    (λ c. search needs)
-    (λ c. search needs)
-    (λ c. search needs)
-    (λ c. search needs)
-    (λ c. search needs)
-    (λ c. search needs)
-    (λ c. search needs)
-    (λ c. search needs)
-    ladders-requires
-    (λ c. search needs)
+    mul-a
+    add-a
+    mul-b
+    add-b
+    mul-paths
+    sub-paths
+    part-paths-start
+    part-paths-end
+    paths-requires
+    same-length
+    same-length-2
     returns)
