@@ -25,7 +25,7 @@ use Rattle.tree.proofs.OneTree.{tree-meets}
 use Rattle.tree.proofs.Forests.{under-eq, child-of, of-child}
 use Rattle.tree.proofs.Positions.{at-position, position-in, position-of, order-in}
 use Rattle.tree.proofs.Intervals.{family-room, parent-before, child-at}
-use Rattle.fill.specs.Arrays.{entryAt, abovePosition, longPosition, Aboves, Tall}
+use Rattle.fill.specs.Arrays.{entryAt, abovePosition, Aboves}
 use Rattle.fill.proofs.Spreading.{ran-map}
 use Rattle.fill.proofs.Laddering.{Over, array-length, array-word, over-at}
 
@@ -172,54 +172,6 @@ heightOf f = suc (forestHeight f)
 abbrev pub longOf : List ℕ → Forest → ℕ
 longOf ps f = Option·elim (tallest f) topMark (position ps)
 
--- HEIGHT and LONG, one behind the other
-pub record Towered (ps : List ℕ) (n i : ℕ) (cells : List ℕ) : Type 0 where
-  pub highs : Hung ps heightOf (λ k. k) i cells
-  pub longs : Hung ps (longOf ps) (λ k. n + k) i cells
-
--- the two parts as they are at the start
-pub record Filled (n : ℕ) (cells : List ℕ) : Type 0 where
-  pub room : length cells ≡ 2 * n
-  pub ones : (k : ℕ) → k < n → getD cells k 0 ≡ 1
-  pub tops : (k : ℕ) → k < n → getD cells (n + k) 0 ≡ topMark
-
--- each was lent, and filled
-module _ (n : ℕ) (old x : List ℕ) (room : length old ≡ 2 * n) (xs : x ≡ replicate (length (midOf 0 (n - 0) old)) 1) where
-  abbrev half : List ℕ
-  half = putMid 0 (n - 0) old x
-
-  x-length : length x ≡ n
-  x-length = ap length xs ∙ length-replicate _ 1 ∙ mid-len 0 n old (omega arith) ∙ omega arith
-
-  half-length : length half ≡ 2 * n
-  half-length = same-len-mid 0 (n - 0) old x (ap length xs ∙ length-replicate _ 1) ∙ room
-
-  module _ (y : List ℕ) (ys : y ≡ replicate (length (midOf n (length half - n) half)) 4294967295) where
-    abbrev rest : List ℕ
-    rest = y ++ postOf n (length half - n) half
-
-    y-length : length y ≡ n
-    y-length = ap length ys ∙ length-replicate _ 4294967295 ∙ mid-len n (length half) half (omega arith) ∙ omega (arith, half-length)
-
-    both-is : putMid n (length half - n) half y ≡ x ++ rest
-    both-is = ap (λ l. l ++ rest) (take-at x _ n x-length)
-
-    pub filled : Filled n (putMid n (length half - n) half y)
-    filled =
-        record {
-          room = same-len-mid n (length half - n) half y (ap length ys ∙ length-replicate _ 4294967295) ∙ half-length;
-          ones = λ k h.
-              ap (λ l. getD l k 0) both-is
-              ∙ List·getD-append x rest 0 k (omega (arith, x-length))
-              ∙ filled-at x (length (midOf 0 (n - 0) old)) 1 k xs (omega (arith, x-length));
-          tops = λ k h.
-              ap (λ l. getD l (n + k) 0) both-is
-              ∙ ap (λ m. getD (x ++ rest) (m + k) 0) (sym x-length)
-              ∙ getD-append-add x rest k 0
-              ∙ List·getD-append y _ 0 k (omega (arith, y-length))
-              ∙ filled-at y (length (midOf n (length half - n) half)) 4294967295 k ys (omega (arith, y-length));
-        }
-
 module _ (ps above : List ℕ) (d : Aboves ps above) where
   pub aboves-length : length above ≡ length ps
   aboves-length = array-length ps (d .few) (d .tree) (abovePosition ps) above (d .aboves)
@@ -232,13 +184,6 @@ module _ (ps above : List ℕ) (d : Aboves ps above) where
     pub hung-all : (i k : ℕ) → i ≤ suc k → k < length ps → Hung ps g spot i cells → getD cells (spot k) 0 ≡ g (under ps (entryAt ps k))
     hung-all i k b h t =
         t k h ∙ ap g (hanging-all ps (d .few) (d .tree) i (entryAt ps k) (order-in ps (omega arith) (d .tree) k h) (omega (arith, position-of ps (omega arith) (d .tree) k h)))
-
-  pub tower-none : (cells : List ℕ) → Filled (length above) cells → Towered ps (length above) (length above) cells
-  unfolding forestHeight tallest Option·elim
-  tower-none cells f = record {
-    highs = hung-none heightOf (λ k. k) cells (λ k h. f .ones k (omega (arith, aboves-length)));
-    longs = hung-none (longOf ps) (λ k. length above + k) cells (λ k h. f .tops k (omega (arith, aboves-length)));
-  }
 
   -- one position further down
   module _ (at : ℕ) (b : 0 < at) (h : at < length above) where
@@ -278,7 +223,8 @@ module _ (ps above : List ℕ) (d : Aboves ps above) where
           rw s (rw c-at at (hanging-same ps (d .few) (d .tree) c (o .over) (o .parent-is) (entryAt ps k) (λ z.
           q (sym (position-of ps (omega arith) (d .tree) k l) ∙ ap (position ps) z ∙ sym over-is))))
 
-      hung-more : (g : Forest → ℕ) (spot : ℕ → ℕ) (cells new : List ℕ) → Hung ps g spot i cells
+      -- the word of the entry above is that of one entry more below it, and the others stay
+      pub hung-more : (g : Forest → ℕ) (spot : ℕ → ℕ) (cells new : List ℕ) → Hung ps g spot i cells
           → ((k : ℕ) → k < length ps → (k ≡ over → ⊥) → getD new (spot k) 0 ≡ getD cells (spot k) 0)
           → getD new (spot over) 0 ≡ g (node c (under ps c) (hanging ps i (entryAt ps over)))
           → Hung ps g spot at new
@@ -288,73 +234,43 @@ module _ (ps above : List ℕ) (d : Aboves ps above) where
           go (yes q) = rw q (here ∙ ap g (sym more))
           go (no q) = others k l q ∙ t k l ∙ ap g (sym (same k l q))
 
-      -- SIZE: the sum fits, and stands for one entry more
-      module _ (cells : List ℕ) (room : length cells ≡ length above) (t : Hung ps sizeOf (λ k. k) i cells) where
-        abbrev sum : ℕ
-        sum = getD cells over 0 + getD cells at 0
-
-        sum-is : sum ≡ sizeOf (node c (under ps c) (hanging ps i (entryAt ps over)))
+      -- SIZE: the sum is that of one entry more, and fits
+      module _ (spot : ℕ → ℕ) (cells : List ℕ) (t : Hung ps sizeOf spot i cells) where
+        pub sum-is : getD cells (spot over) 0 + getD cells (spot at) 0 ≡ sizeOf (node c (under ps c) (hanging ps i (entryAt ps over)))
         unfolding forestSize
-        sum-is = omega (arith, t over over-in, hung-all sizeOf (λ k. k) cells i at (omega arith) inner t)
+        sum-is = omega (arith, t over over-in, hung-all sizeOf spot cells i at (omega arith) inner t)
 
-        pub sum-fits : sum ≤ 1048576
+        pub sum-fits : getD cells (spot over) 0 + getD cells (spot at) 0 ≤ 1048576
         sum-fits =
             omega (arith, sum-is, ap sizeOf more, ap (λ v. forestSize (hanging ps at v)) over-entry, rw c-at at (hanging-fits ps (d .few) (d .tree) c (o .over) (o .parent-is)), family-room ps (omega arith) (d .tree) (o .over) (o .inside))
 
-        pub sum-more : Hung ps sizeOf (λ k. k) at (set cells over sum)
-        sum-more =
-            hung-more sizeOf (λ k. k) cells (set cells over sum) t (λ k l q. getD-set-other cells over k sum 0 q) (getD-set-same cells over sum 0 (omega (arith, over-in, aboves-length)) ∙ sum-is)
+      -- HEIGHT and LONG: the child is the tallest of those met, the first of them on a tie, or not
+      module _ (spot : ℕ → ℕ) (cells : List ℕ) (t : Hung ps heightOf spot i cells) where
+        high : getD cells (spot at) 0 ≡ height ps c
+        high = hung-all heightOf spot cells i at (omega arith) inner t
 
-      -- HEIGHT and LONG
-      module _ (cells : List ℕ) (room : length cells ≡ 2 * length above) (t : Towered ps (length above) i cells) where
-        high : getD cells at 0 ≡ height ps c
-        high = hung-all heightOf (λ k. k) cells i at (omega arith) inner (t .highs)
-
-        pub rise-fits : getD cells at 0 ≤ 1048576
+        pub rise-fits : getD cells (spot at) 0 ≤ 1048576
         rise-fits = omega (arith, high, height-most (under ps c), family-room ps (omega arith) (d .tree) c (order-in ps (omega arith) (d .tree) at inner))
 
-        -- the child is the tallest of those met, the first of them on a tie, or not
-        pub tower-more : getD cells over 0 ≤ getD cells at 0 + 1 → Towered ps (length above) at (set (set cells over (getD cells at 0 + 1)) (length above + over) at)
+        pub taller : getD cells (spot over) 0 ≤ getD cells (spot at) 0 + 1
+            → (getD cells (spot at) 0 + 1 ≡ heightOf (node c (under ps c) (hanging ps i (entryAt ps over)))) × (at ≡ longOf ps (node c (under ps c) (hanging ps i (entryAt ps over))))
         unfolding forestHeight tallest Option·elim
-        tower-more g =
-            let x = getD cells at 0 + 1 in
-            let one = set cells over x in
-            let n = length above in
-            let room-1 : length one ≡ 2 * n = length-set cells over x ∙ room in
-            record {
-              highs = hung-more heightOf (λ k. k) cells (set one (n + over) at) (t .highs)
-                  (λ k l q. getD-set-other one (n + over) k at 0 (λ z. omega (arith, aboves-length)) ∙ getD-set-other cells over k x 0 q)
-                  (getD-set-other one (n + over) over at 0 (λ z. omega (arith, aboves-length, over-in)) ∙ getD-set-same cells over x 0 (omega (arith, over-in, aboves-length)) ∙ omega (arith, high, t .highs over over-in));
-              longs = hung-more (longOf ps) (λ k. n + k) cells (set one (n + over) at) (t .longs)
-                  (λ k l q. getD-set-other one (n + over) (n + k) at 0 (λ z. q (omega arith)) ∙ getD-set-other cells over (n + k) x 0 (λ z. omega (arith, aboves-length, over-in)))
-                  (getD-set-same one (n + over) at 0 (omega (arith, over-in, aboves-length)) ∙ rw (le-leb (forestHeight (hanging ps i (entryAt ps over))) (height ps c) (omega (arith, high, t .highs over over-in))) (sym c-at));
-            }
+        taller g =
+            (omega (arith, high, t over over-in), rw (le-leb (forestHeight (hanging ps i (entryAt ps over))) (height ps c) (omega (arith, high, t over over-in))) (sym c-at))
 
-        pub tower-same : getD cells at 0 + 1 < getD cells over 0 → Towered ps (length above) at cells
+        pub shorter : getD cells (spot at) 0 + 1 < getD cells (spot over) 0
+            → (getD cells (spot over) 0 ≡ heightOf (node c (under ps c) (hanging ps i (entryAt ps over)))) × (longOf ps (hanging ps i (entryAt ps over)) ≡ longOf ps (node c (under ps c) (hanging ps i (entryAt ps over))))
         unfolding forestHeight tallest
-        tower-same g =
-            let z = t .highs over over-in in
-            record {
-              highs = hung-more heightOf (λ k. k) cells cells (t .highs) (λ k l q. refl) (omega (arith, high));
-              longs = hung-more (longOf ps) (λ k. length above + k) cells cells (t .longs) (λ k l q. refl)
-                  (t .longs over over-in ∙ rw (lt-leb (forestHeight (hanging ps i (entryAt ps over))) (height ps c) (omega (arith, high))));
-            }
+        shorter g =
+            let z = t over over-in in
+            (omega (arith, high, z), rw (lt-leb (forestHeight (hanging ps i (entryAt ps over))) (height ps c) (omega (arith, high, z))))
 
   -- at the end
-  module _ (i : ℕ) (cells : List ℕ) (b : i ≤ 1) (room : length cells ≡ 2 * length above) where
-    array : (f : ℕ → ℕ) (g : Forest → ℕ) → ((v : ℕ) → g (under ps v) ≡ f v) → (a : ℕ) → a + length ps ≤ length cells → Hung ps g (λ k. a + k) i cells → view a (length ps) cells ≡ map f (order ps)
-    array f g same a h t =
-        ran-map ps (d .few) (d .tree) f (view a (length ps) cells) (length ps) (view a (length ps) cells) (view-length a (length ps) cells h) (omega arith) (
-          refl,
-          λ k l.
-              sym (view-at a (length ps) cells k (a + k) l refl) ∙ hung-all g (λ j. a + j) cells i k (omega arith) l t ∙ same (entryAt ps k),
-        )
-
-    pub tower-end : Towered ps (length above) i cells → Tall ps cells
-    unfolding longPosition
-    tower-end t =
-        let n = aboves-length in
-        record {
-          heights = array (height ps) heightOf (λ v. refl) 0 (omega arith) (λ k h. let z : 0 + k ≡ k = omega arith in ap (λ j. getD cells j 0) z ∙ t .highs k h);
-          longs = array (longPosition ps) (longOf ps) (λ v. refl) (length ps) (omega arith) (rw n at (t .longs));
-        }
+  pub hung-map : (f : ℕ → ℕ) (g : Forest → ℕ) → ((v : ℕ) → g (under ps v) ≡ f v) → (i a : ℕ) (cells : List ℕ) → i ≤ 1 → a + length ps ≤ length cells → Hung ps g (λ k. a + k) i cells
+      → view a (length ps) cells ≡ map f (order ps)
+  hung-map f g same i a cells b h t =
+      ran-map ps (d .few) (d .tree) f (view a (length ps) cells) (length ps) (view a (length ps) cells) (view-length a (length ps) cells h) (omega arith) (
+        refl,
+        λ k l.
+            sym (view-at a (length ps) cells k (a + k) l refl) ∙ hung-all g (λ j. a + j) cells i k (omega arith) l t ∙ same (entryAt ps k),
+      )

@@ -10,3 +10,4 @@ pub mod Doubling
 pub mod Nearing
 pub mod Hanging
 pub mod Standing
+pub mod Growing

@@ -49,10 +49,13 @@ pub record Aboves (ps above : List ℕ) : Type 0 where
   pub tree : Tree ps
   pub aboves : above ≡ map (abovePosition ps) (order ps)
 
--- HEIGHT and LONG, one behind the other
-pub record Tall (ps cells : List ℕ) : Type 0 where
-  pub heights : view 0 (length ps) cells ≡ map (height ps) (order ps)
-  pub longs : view (length ps) (length ps) cells ≡ map (longPosition ps) (order ps)
+-- SIZE, HEIGHT and LONG in regions 2, 4 and 5 of a working space for n entries, and the other regions as they were
+pub record Grown (ps : List ℕ) (n : ℕ) (old new : List ℕ) : Type 0 where
+  pub front : view 0 (n * 2) new ≡ view 0 (n * 2) old
+  pub sizes : view (n * 2) n new ≡ map (size ps) (order ps)
+  pub aboves : view (n * 3) n new ≡ view (n * 3) n old
+  pub heights : view (n * 4) n new ≡ map (height ps) (order ps)
+  pub longs : view (n * 5) n new ≡ map (longPosition ps) (order ps)
 
 -- LONG and ABOVE of a list that forms one tree
 pub record Paths (ps long above : List ℕ) : Type 0 where
