@@ -158,26 +158,20 @@ module _ (ps t : List ℕ) (long : length t ≡ tableWords (length ps)) (few : l
         groups = put-view t₂ (4 + n ps * 8) G b₂ (n ps * 3) g;
       }
 
-  -- LADDERS and LADPOS beside them, with the positions above in the cells of DEPTH
-  pub laddered : Familied ps t → let t₃ = put (put (put t 4 (map (abovePosition ps) (order ps))) (4 + n ps * 6) R) (4 + n ps * 2) L in Familied ps t₃ × Laddered ps t₃
+  -- LADDERS and LADPOS beside them
+  pub laddered : Familied ps t → let t₂ = put (put t (4 + n ps * 6) R) (4 + n ps * 2) L in Familied ps t₂ × Laddered ps t₂
   laddered f =
-      let X = map (abovePosition ps) (order ps) in
-      let x : length X ≡ n ps = array-length ps few tree (abovePosition ps) X refl in
       let l = each-length (n ps) 0 (ladPos ps) in
       let r = rungs-wide in
-      let t₁ = put t 4 X in
-      let t₂ = put t₁ (4 + n ps * 6) R in
-      let b₀ : 4 + length X ≤ length t = omega arith in
-      let long₁ = put-length t 4 X b₀ in
-      let b₁ : 4 + n ps * 6 + length R ≤ length t₁ = omega arith in
-      let long₂ = put-length t₁ (4 + n ps * 6) R b₁ in
-      let b₂ : 4 + n ps * 2 + length L ≤ length t₂ = omega arith in (
-        familied-put ps t₂ (4 + n ps * 2) L b₂ (inl (omega arith)) (inr (omega arith)) (inr (omega arith))
-            (familied-put ps t₁ (4 + n ps * 6) R b₁ (inl (omega arith)) (inl (omega arith)) (inr (omega arith))
-            (familied-put ps t 4 X b₀ (inr (omega arith)) (inr (omega arith)) (inr (omega arith)) f)),
+      let t₁ = put t (4 + n ps * 6) R in
+      let b₀ : 4 + n ps * 6 + length R ≤ length t = omega arith in
+      let long₁ = put-length t (4 + n ps * 6) R b₀ in
+      let b₁ : 4 + n ps * 2 + length L ≤ length t₁ = omega arith in (
+        familied-put ps t₁ (4 + n ps * 2) L b₁ (inl (omega arith)) (inr (omega arith)) (inr (omega arith))
+            (familied-put ps t (4 + n ps * 6) R b₀ (inl (omega arith)) (inl (omega arith)) (inr (omega arith)) f),
         record {
-          places = put-view t₂ (4 + n ps * 2) L b₂ (n ps) l;
-          rungs = stays t₂ (4 + n ps * 2) L b₂ (4 + n ps * 6) (n ps * 2) (inr (omega arith)) ∙ put-view t₁ (4 + n ps * 6) R b₁ (n ps * 2) r;
+          places = put-view t₁ (4 + n ps * 2) L b₁ (n ps) l;
+          rungs = stays t₁ (4 + n ps * 2) L b₁ (4 + n ps * 6) (n ps * 2) (inr (omega arith)) ∙ put-view t (4 + n ps * 6) R b₀ (n ps * 2) r;
         },
       )
 

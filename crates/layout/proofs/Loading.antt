@@ -1,41 +1,38 @@
--- The regions of the working space that passes fill from the table's cells of DEPTH. Assumes nothing.
+-- The regions of the working space, from the preorder and the depths. Assumes nothing.
 use mathlib.Core.Path.{_≡_, refl, sym, ap, _∙_}
 use mathlib.Core.List.{List, map}
 use Prim.Native.Nat.{ℕ, _+_, _*_, _-_, _≤_}
 use native.Mathlib.Omega.{arith}
 use borrow.Rule.Slice.PartMut.{midOf, putMid}
-use lib.ListN.{length}
+use lib.ListN.{length, take, drop, length-take, take-append-drop}
 use Rattle.base.specs.Lists.{view, put}
-use Rattle.base.proofs.Puts.{lent-back, put-view, put-behind, put-inside}
+use Rattle.base.proofs.Puts.{lent-back, put-view}
+use Rattle.base.proofs.Views.{view-front}
 use Rattle.tree.specs.Parents.{depth}
-use Rattle.tree.specs.Forest.{size, order}
-use Rattle.fill.specs.Arrays.{abovePosition, Depths, Aboves, Tall}
+use Rattle.tree.specs.Forest.{order}
+use Rattle.fill.specs.Arrays.{abovePosition, Depths, Aboves, Grown}
 use Rattle.fill.proofs.Laddering.{array-length}
-use Rattle.layout.specs.Stages.{Walked, Measured, Raised}
-use Rattle.layout.proofs.Staging.{lent, walked-put, measured-put}
+use Rattle.layout.specs.Stages.{Walked, Measured}
+use Rattle.layout.proofs.Staging.{lent, walked-put}
+
+-- a part of the front of a list
+front-view : (m b c : ℕ) (l : List ℕ) → b + c ≤ m → m ≤ length l → view b c l ≡ view b c (view 0 m l)
+unfolding view
+front-view m b c l h k = ap (view b c) (sym (take-append-drop m l)) ∙ view-front b c (take m l) (drop m l) (omega (arith, length-take m l))
 
 module _ (ps space : List ℕ) (w : Walked ps space) where
   abbrev n : ℕ
   n = length ps
 
-  -- a region that was carried there
-  module _ (f : ℕ → ℕ) (a : ℕ) (is : view a n space ≡ map f (order ps)) (table table₁ : List ℕ) (room : 4 + n ≤ length table) (put-there : table₁ ≡ put table 4 (view a n space)) where
-    pub held : table₁ ≡ put table 4 (map f (order ps))
-    held = put-there ∙ ap (put table 4) is
+  -- the depths, carried to the cells of DEPTH
+  pub depths-of : (table table₁ : List ℕ) → 4 + n ≤ length table → table₁ ≡ put table 4 (view n n space) → Depths ps (midOf 4 (4 + n - 4) table₁)
+  depths-of table table₁ room e =
+      let x = map (depth ps) (order ps) in
+      let wide : length x ≡ n = array-length ps (w .few) (w .tree) (depth ps) x refl in
+      let held : table₁ ≡ put table 4 x = e ∙ ap (put table 4) (w .depths) in
+      record { few = w .few; tree = w .tree; depths = lent 4 (4 + n) n table₁ _ (omega arith) (ap (view 4 n) held ∙ put-view table 4 x (omega arith) n wide) }
 
-    pub scratch : midOf 4 (4 + n - 4) table₁ ≡ map f (order ps)
-    scratch =
-        let wide : length (map f (order ps)) ≡ n = array-length ps (w .few) (w .tree) f (map f (order ps)) refl in
-        lent 4 (4 + n) n table₁ _ (omega arith) (ap (view 4 n) held ∙ put-view table 4 (map f (order ps)) (omega arith) n wide)
-
-  module _ (table table₁ : List ℕ) (room : 4 + n ≤ length table) where
-    pub depths-of : table₁ ≡ put table 4 (view n n space) → Depths ps (midOf 4 (4 + n - 4) table₁)
-    depths-of e = record { few = w .few; tree = w .tree; depths = scratch (depth ps) n (w .depths) table table₁ room e }
-
-    pub aboves-of : view (n * 3) n space ≡ map (abovePosition ps) (order ps) → table₁ ≡ put table 4 (view (n * 3) n space) → Aboves ps (midOf 4 (4 + n - 4) table₁)
-    aboves-of is e = record { few = w .few; tree = w .tree; aboves = scratch (abovePosition ps) (n * 3) is table table₁ room e }
-
-  -- region 3, and region 2 after it
+  -- region 3
   module _ (ys : List ℕ) (f : ys ≡ map (abovePosition ps) (order ps)) where
     wide : length ys ≡ n
     wide = array-length ps (w .few) (w .tree) (abovePosition ps) ys f
@@ -46,32 +43,18 @@ module _ (ps space : List ℕ) (w : Walked ps space) where
     pub over-walked : Walked ps (putMid (n * 3) (n * 4 - n * 3) space ys)
     over-walked = rw over-is (walked-put ps space (n * 3) ys (omega arith) (omega (arith, wide)) w)
 
-    pub over-aboves : view (n * 3) n (putMid (n * 3) (n * 4 - n * 3) space ys) ≡ map (abovePosition ps) (order ps)
-    over-aboves = rw over-is (put-view space (n * 3) ys (omega (arith, w .room, wide)) n wide ∙ f)
+    pub over-aboves : Aboves ps (view (n * 3) n (putMid (n * 3) (n * 4 - n * 3) space ys))
+    over-aboves = record { few = w .few; tree = w .tree; aboves = rw over-is (put-view space (n * 3) ys (omega (arith, w .room, wide)) n wide ∙ f) }
 
--- the sizes beside them
-pub measured : (ps space : List ℕ) → Walked ps space → view (length ps * 3) (length ps) space ≡ map (abovePosition ps) (order ps)
-    → (xs : List ℕ) → xs ≡ map (size ps) (order ps) → Measured ps (putMid (length ps * 2) (length ps * 3 - length ps * 2) space xs)
-measured ps space w above xs e =
-    let n = length ps in
-    let wide : length xs ≡ n = array-length ps (w .few) (w .tree) (size ps) xs e in
-    let fits : n * 2 + length xs ≤ length space = omega (arith, w .room) in
-    rw (lent-back (n * 2) (n * 3) space xs xs refl (omega arith)) (record {
-      walked = walked-put ps space (n * 2) xs (omega arith) (omega arith) w;
-      sizes = put-view space (n * 2) xs fits n wide ∙ e;
-      aboves = put-behind space (n * 2) xs fits (n * 3) n (omega arith) ∙ above;
-    })
-
-module _ (ps space : List ℕ) (m : Measured ps space) where
-  -- regions 4 and 5
-  pub raised : (cells : List ℕ) → length cells ≡ length ps * 2 → Tall ps cells → Raised ps (putMid (length ps * 4) (length ps * 6 - length ps * 4) space cells)
-  raised cells e t =
-      let k = length ps in
-      let room : k * 4 + length cells ≤ length space = omega (arith, m .walked .room) in
-      let z : k * 4 + 0 ≡ k * 4 = omega arith in
-      let y : k * 4 + k ≡ k * 5 = omega arith in
-      rw (lent-back (k * 4) (k * 6) space cells cells refl (omega arith)) (record {
-        measured = measured-put ps space (k * 4) cells (omega arith) (omega arith) m;
-        heights = ap (λ a. view a k (put space (k * 4) cells)) (sym z) ∙ put-inside space (k * 4) cells room 0 k (omega arith) ∙ t .heights;
-        longs = ap (λ a. view a k (put space (k * 4) cells)) (sym y) ∙ put-inside space (k * 4) cells room k k (omega arith) ∙ t .longs;
-      })
+  -- the regions that are measured from it
+  pub measured : (new : List ℕ) → Aboves ps (view (n * 3) n space) → length new ≡ length space → Grown ps n space new → Measured ps new
+  measured new a same g =
+      let kept : (b c : ℕ) → b + c ≤ n * 2 → view b c new ≡ view b c space
+      = λ b c h. front-view (n * 2) b c new h (omega (arith, same, w .room)) ∙ ap (view b c) (g .front) ∙ sym (front-view (n * 2) b c space h (omega (arith, w .room))) in
+      record {
+        walked = record { few = w .few; tree = w .tree; room = same ∙ w .room; orders = kept 0 n (omega arith) ∙ w .orders; depths = kept n n (omega arith) ∙ w .depths };
+        sizes = g .sizes;
+        aboves = g .aboves ∙ a .aboves;
+        heights = g .heights;
+        longs = g .longs;
+      }

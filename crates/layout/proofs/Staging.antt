@@ -15,7 +15,7 @@ use Rattle.table.specs.Ladders.{ladPos}
 use Rattle.fill.specs.Arrays.{Families, Members, Upright, Pathed, Indexes}
 use Rattle.fill.proofs.Spreading.{order-indexes}
 use Rattle.fill.proofs.Laddering.{array-length}
-use Rattle.layout.specs.Stages.{Walked, Measured, Raised, Placing}
+use Rattle.layout.specs.Stages.{Walked, Measured, Placing}
 
 -- a part that is lent has the words that stand there
 pub lent : (a b c : ℕ) (l x : List ℕ) → a + c ≡ b → view a c l ≡ x → midOf a (b - a) l ≡ x
@@ -71,10 +71,10 @@ module _ (ps space : List ℕ) (w : Walked ps space) where
   pub indexes-of : (cells : List ℕ) → length cells ≡ length ps → Indexes (midOf 0 (length ps - 0) space) cells
   indexes-of cells e = order-indexes ps (w .few) (w .tree) _ cells (lent 0 (length ps) (length ps) space _ (omega arith) (w .orders)) e
 
-pub upright-of : (ps space : List ℕ) → Raised ps space → Upright ps space
-upright-of ps space r =
-    let w = r .measured .walked in
-    record { few = w .few; tree = w .tree; room = w .room; orders = w .orders; depths = w .depths; aboves = r .measured .aboves; heights = r .heights; longs = r .longs }
+pub upright-of : (ps space : List ℕ) → Measured ps space → Upright ps space
+upright-of ps space m =
+    let w = m .walked in
+    record { few = w .few; tree = w .tree; room = w .room; orders = w .orders; depths = w .depths; aboves = m .aboves; heights = m .heights; longs = m .longs }
 
 pub placing : (ps : List ℕ) (paths : ℕ) (space cells : List ℕ) → Pathed ps paths space cells → Placing ps space
 placing ps paths space cells p =

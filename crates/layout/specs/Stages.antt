@@ -22,15 +22,11 @@ pub record Walked (ps space : List ℕ) : Type 0 where
   pub orders : view 0 (length ps) space ≡ order ps
   pub depths : view (length ps) (length ps) space ≡ map (depth ps) (order ps)
 
--- regions 2 and 3: the sizes, and the positions of the entries above
+-- regions 2 to 5: the sizes, the positions of the entries above, the heights, and the positions to which the long paths continue
 pub record Measured (ps space : List ℕ) : Type 0 where
   pub walked : Walked ps space
   pub sizes : view (length ps * 2) (length ps) space ≡ map (size ps) (order ps)
   pub aboves : view (length ps * 3) (length ps) space ≡ map (abovePosition ps) (order ps)
-
--- regions 4 and 5: the heights, and the positions to which the long paths continue
-pub record Raised (ps space : List ℕ) : Type 0 where
-  pub measured : Measured ps space
   pub heights : view (length ps * 4) (length ps) space ≡ map (height ps) (order ps)
   pub longs : view (length ps * 5) (length ps) space ≡ map (longPosition ps) (order ps)
 

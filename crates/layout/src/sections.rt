@@ -9,11 +9,10 @@ ghost use Rattle.tree.specs.Forest.{position};
 ghost use Rattle.table.specs.Groups.{groupRoots, jumpNodes, kind};
 ghost use Rattle.table.specs.Ladders.{pathTops, ladPos};
 ghost use Rattle.table.specs.Table.{ladderCells, groupCells};
-ghost use Rattle.layout.specs.Stages.{Walked, Measured, Raised, Placing, Familied, Laddered, Sectioned};
+ghost use Rattle.layout.specs.Stages.{Walked, Measured, Placing, Familied, Laddered, Sectioned};
 use crate::parts::by_entry;
 use crate::parts::carry;
 use crate::parts::turn;
-use crate::regions::raise;
 use fill::kinds::Counts;
 use fill::spread::copy;
 
@@ -65,7 +64,7 @@ pub(crate) fn family_sections(parents: &[u32], table: &mut [u32], space: &mut [u
 
 // LADDERS, with LADPOS by position in region 2; hands back how many long paths there are.
 fn ladder_section(parents: &[u32], table: &mut [u32], space: &mut [u32]) -> u32
-    requires { ⌜ Raised (now parents) (now space) × (length (now table) ≡ tableWords (length (now parents))) ⌝ }
+    requires { ⌜ Measured (now parents) (now space) × (length (now table) ≡ tableWords (length (now parents))) ⌝ }
     ensures paths { λ r. ⌜ r ≡ length (pathTops (now (parents .entry))) ⌝ }
     ensures kept { λ _. ⌜ Placing (now (parents .entry)) (now (space .exit)) ⌝ }
     ensures laid { λ _. ⌜ now (table .exit) ≡ put (now (table .entry)) (4 + length (now (parents .entry)) * 6) (ladderCells (now (parents .entry))) ⌝ }
@@ -76,7 +75,7 @@ fn ladder_section(parents: &[u32], table: &mut [u32], space: &mut [u32]) -> u32
     fill::laying::paths(n, space, &mut table[a..b])
 }
 
-// LADDERS and LADPOS, beside the sections that stand; hands back how many long paths there are. The table's cells of DEPTH serve on the way.
+// LADDERS and LADPOS, beside the sections that stand; hands back how many long paths there are.
 pub(crate) fn path_sections(parents: &[u32], table: &mut [u32], space: &mut [u32]) -> u32
     requires { ⌜ Measured (now parents) (now space) × (length (now table) ≡ tableWords (length (now parents))) × Familied (now parents) (now table) ⌝ }
     ensures paths { λ r. ⌜ r ≡ length (pathTops (now (parents .entry))) ⌝ }
@@ -84,7 +83,6 @@ pub(crate) fn path_sections(parents: &[u32], table: &mut [u32], space: &mut [u32
     ensures laid { λ _. ⌜ Familied (now (parents .entry)) (now (table .exit)) × Laddered (now (parents .entry)) (now (table .exit)) ⌝ }
 {
     let n = parents.len();
-    raise(parents, table, space);
     let paths = ladder_section(parents, table, space);
     by_entry(parents, space, n * 2, table, 4 + n * 2);
     paths
