@@ -281,6 +281,16 @@ fn bad_calls_and_damaged_tables() {
         "there is no command `clas`; see `tantsheko --help`",
     );
     f.fails(&[], 2, "a command is missing; see `tantsheko --help`");
+    f.fails(
+        &["class", "table", "7", "1", "--sells"],
+        2,
+        "class has no option `--sells`; see `tantsheko class --help`",
+    );
+    f.fails(
+        &["check", "table", "list", "--cells"],
+        2,
+        "check has no option `--cells`; see `tantsheko check --help`",
+    );
     f.file("other", "-\n0\n0\n0\n0\n0\n0\n0\n");
     f.fails(
         &["check", "table", "other"],

@@ -65,11 +65,15 @@ fn run(args: &[String]) -> Done {
     if command == "help" || command == "--help" || command == "-h" {
         return say(&help::of(rest.first().map_or("", String::as_str)));
     }
-    if !help::COMMANDS.iter().any(|c| c.0 == command) {
+    let Some(known) = help::COMMANDS.iter().find(|c| c.0 == command) else {
         return Err(Stop::Usage(format!("there is no command `{command}`")));
-    }
+    };
     if rest.iter().any(|a| a == "--help" || a == "-h") {
         return say(&help::of(command));
+    }
+    let takes = |option: &str| option == "--cells" && known.1.contains(option);
+    if let Some(other) = rest.iter().find(|a| a.starts_with("--") && !takes(a)) {
+        return Err(Stop::Usage(format!("{command} has no option `{other}`")));
     }
     match command.as_str() {
         "prepare" => prepare::prepare(rest),
