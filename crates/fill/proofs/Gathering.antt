@@ -6,13 +6,14 @@ use mathlib.Core.Option.{Option, none, some, Option·getD}
 use Prim.Native.Nat.{ℕ, zero, suc, _+_, _*_, _-_, _≤_, _<_}
 use native.Mathlib.Omega.{arith}
 use native.Mathlib.Numerals.{add-one}
-use lib.ListN.{length, getD, set, take, drop, replicate, length-replicate}
-use lib.Seq.{take-suc, take-all}
+use borrow.Rule.Slice.PartMut.{midOf, putMid}
+use lib.ListN.{length, getD, set, take, drop, replicate}
+use lib.Seq.{take-suc, take-all, take-at}
 use Rattle.base.specs.Limits.{mostEntries, groupLimit}
 use Rattle.base.specs.Lists.{keep, padded}
 use Rattle.base.proofs.Keeping.{keep-append, keep-yes, keep-no}
 use Rattle.base.proofs.Rows.{rows-length}
-use Rattle.base.proofs.Views.{Laid, laid-none, laid-more}
+use Rattle.base.proofs.Views.{Laid, laid-none, laid-length, laid-more}
 use Rattle.tree.specs.Parents.{topMark, parent, depth}
 use Rattle.tree.specs.Forest.{levels, under, size, family, order, position}
 use Rattle.tree.specs.Faults.{Tree}
@@ -25,6 +26,7 @@ use Rattle.shapes.specs.Walks.{walkRound, shapeNumber}
 use Rattle.climbs.proofs.Groups.{rootsWithin}
 use Rattle.climbs.proofs.Jumps.{size-micro, size-macro}
 use Rattle.fill.specs.Arrays.{entryAt, abovePosition, Climbs, Members, Grouped}
+use Rattle.fill.proofs.Spreading.{wiped}
 use Rattle.fill.proofs.Laddering.{Over, array-length, array-word, over-at}
 use Rattle.fill.proofs.Rooting.{Ended, macro-none, root-next, root-none, ended-same, ended-group}
 use Rattle.fill.proofs.Kinding.{count-small}
@@ -88,13 +90,14 @@ module _ (ps ord above : List ℕ) (c : Climbs ps ord above) where
     pub word-next : getD ord (getD above i 0) 0 ≡ Option·getD (parent ps (entryAt ps i)) topMark
     word-next = rw (upper .parent-is) (ap (λ l. getD l (getD above i 0) 0) (c .order-is) ∙ ap (entryAt ps) upper-word ∙ at-position ps small (c .tree) (upper .over) (upper .inside))
 
--- the words of the groups among the first i positions, zeros behind, and where the next stand
-abbrev Words : List ℕ → ℕ → ℕ → List ℕ → Type 0
-Words ps i at cells = Laid (replicate (3 * length ps) 0) (flatMap (groupWords groupLimit ps) (rootsWithin groupLimit ps i)) cells at
+-- the words of the groups among the first i positions, over those of a section, and where the next stand
+abbrev Words : List ℕ → List ℕ → ℕ → ℕ → List ℕ → Type 0
+Words ps old i at cells = Laid old (flatMap (groupWords groupLimit ps) (rootsWithin groupLimit ps i)) cells at
 
 -- and none of those groups goes on at position i
-pub record Gathered (ps : List ℕ) (i at : ℕ) (cells : List ℕ) : Type 0 where
-  pub words : Words ps i at cells
+pub record Gathered (ps old : List ℕ) (i at : ℕ) (cells : List ℕ) : Type 0 where
+  pub room : length old ≡ 3 * length ps
+  pub words : Words ps old i at cells
   pub ended : Ended groupLimit ps i i
 
 module _ (ps ord deep sizes above : List ℕ) (m : Members ps ord deep sizes above) where
@@ -116,21 +119,23 @@ module _ (ps ord deep sizes above : List ℕ) (m : Members ps ord deep sizes abo
   pub sizes-many : length sizes ≡ length ord
   sizes-many = array-length ps few tree (size ps) sizes (m .families .sizes-are) ∙ sym entries
 
-  pub gather-none : (n : ℕ) (cells : List ℕ) → n ≡ 3 * length ord → cells ≡ replicate n 0 → Gathered ps 0 0 cells
+  pub gather-none : (old : List ℕ) → length old ≡ 3 * length ord → Gathered ps old 0 0 old
   unfolding keep flatMap
-  gather-none n cells e q =
-      let z : n ≡ 3 * length ps = omega (arith, entries) in
-      record { words = rw (q, z) (laid-none (replicate (3 * length ps) 0)); ended = λ k b. absurd (omega arith) }
+  gather-none old e = record { room = omega (arith, entries); words = laid-none old; ended = λ k b. absurd (omega arith) }
 
-  pub gather-end : (i at : ℕ) (cells : List ℕ) → length ord ≤ i → Gathered ps i at cells → Grouped ps cells
-  unfolding Grouped padded
-  gather-end i at cells h g =
+  -- all groups, once the words behind them are set to 0
+  pub gather-end : (old : List ℕ) (i at : ℕ) (cells tail : List ℕ) → length ord ≤ i → Gathered ps old i at cells → tail ≡ replicate (length (midOf at (length cells - at) cells)) 0
+      → Grouped ps (putMid at (length cells - at) cells tail)
+  unfolding Grouped
+  gather-end old i at cells tail h g e =
       let whole : take i (order ps) ≡ order ps = take-all i (order ps) (omega (arith, entries, order-length ps little tree)) in
       let words = flatMap (groupWords groupLimit ps) (rootsWithin groupLimit ps i) in
-      let q : drop {A = ℕ} at (replicate (3 * length ps) 0) ≡ replicate (3 * length ps - length words) 0 = drop-zeros at (3 * length ps) ∙ ap (λ k. replicate (3 * length ps - k) 0) (sym (g .words .size)) in
-      rw whole at (g .words .is ∙ ap (λ l. words ++ l) q)
+      let long : length cells ≡ 3 * length ps = laid-length (g .words) ∙ g .room in
+      let front : take at cells ≡ words = ap (take at) (g .words .is) ∙ take-at words (drop at old) at (g .words .size) in
+      let fits : at ≤ length cells = omega (arith, laid-length (g .words), g .words .fits) in
+      rw whole at (wiped cells tail at fits e ∙ ap (λ n. padded n (take at cells)) long ∙ ap (padded (3 * length ps)) front)
 
-  module _ (i at : ℕ) (cells : List ℕ) (h : i < length ord) (g : Gathered ps i at cells) where
+  module _ (old : List ℕ) (i at : ℕ) (cells : List ℕ) (h : i < length ord) (g : Gathered ps old i at cells) where
     abbrev v : ℕ
     v = entryAt ps i
 
@@ -171,10 +176,11 @@ module _ (ps ord deep sizes above : List ℕ) (m : Members ps ord deep sizes abo
     group-some = omega (arith, group-size, interval ps little tree v v hv hv .0 (ancestor-self ps little tree v hv) .1)
 
     -- past an entry of a larger size
-    pub gather-same : groupLimit < getD sizes i 0 → Gathered ps (i + 1) at cells
+    pub gather-same : groupLimit < getD sizes i 0 → Gathered ps old (i + 1) at cells
     gather-same b =
         let e = macro-none groupLimit ps v (size-macro groupLimit ps v (omega (arith, group-size))) in
         record {
+          room = g .room;
           words = rw (keep-same (groupRoot groupLimit ps) (order ps) i inner e) (g .words);
           ended = λ k l q. omega (arith, ended-same ps little tree groupLimit i i e (g .ended) k l q);
         }
@@ -184,11 +190,10 @@ module _ (ps ord deep sizes above : List ℕ) (m : Members ps ord deep sizes abo
       starts : groupRoot groupLimit ps v ≡ true
       starts = root-next ps little tree groupLimit i i (omega (arith, entries)) (g .ended) (omega arith) (size-micro groupLimit ps v (omega (arith, group-size)))
 
-      words-more : (shape over : ℕ) → shape ≡ shapeNumber groupLimit (walkRound (under ps v)) → over ≡ Option·getD (parent ps v) topMark → Words ps (i + 1) (at + 3) (set (set (set cells at i) (at + 1) shape) (at + 2) over)
+      words-more : (shape over : ℕ) → shape ≡ shapeNumber groupLimit (walkRound (under ps v)) → over ≡ Option·getD (parent ps v) topMark → Words ps old (i + 1) (at + 3) (set (set (set cells at i) (at + 1) shape) (at + 2) over)
       unfolding groupWords
       words-more shape over s o =
-          let old : List ℕ = replicate (3 * length ps) 0 in
-          let n : length old ≡ 3 * length ps = length-replicate {A = ℕ} (3 * length ps) 0 in
+          let n = g .room in
           let l = laid-more over (omega (arith, gather-room)) (laid-more shape (omega (arith, gather-room)) (laid-more i (omega (arith, gather-room)) (g .words))) in
           let words = flatMap (groupWords groupLimit ps) (rootsWithin groupLimit ps i) in
           let q : flatMap (groupWords groupLimit ps) (rootsWithin groupLimit ps (i + 1)) ≡ ((words ++ i ∷ []) ++ shape ∷ []) ++ over ∷ [] =
@@ -199,12 +204,12 @@ module _ (ps ord deep sizes above : List ℕ) (m : Members ps ord deep sizes abo
           let y : (at + 2) + 1 ≡ at + 3 = omega arith in
           rw (q, ← y) (rw z at l)
 
-      words-hop : (at₁ : ℕ) (cells₁ : List ℕ) → Words ps (i + 1) at₁ cells₁ → Words ps (i + size ps v) at₁ cells₁
+      words-hop : (at₁ : ℕ) (cells₁ : List ℕ) → Words ps old (i + 1) at₁ cells₁ → Words ps old (i + size ps v) at₁ cells₁
       words-hop at₁ cells₁ k =
           let z : i + size ps v ≡ (i + 1) + (size ps v - 1) = omega (arith, group-size, group-some) in
           rw z (go (size ps v - 1) (omega (arith, group-size, group-some)))
         where
-          go : (n : ℕ) → (i + 1) + n ≤ i + size ps v → Words ps ((i + 1) + n) at₁ cells₁
+          go : (n : ℕ) → (i + 1) + n ≤ i + size ps v → Words ps old ((i + 1) + n) at₁ cells₁
           go zero b = let z : (i + 1) + zero ≡ i + 1 = omega arith in rw z k
           go (suc n) b =
               let z : (i + 1) + suc n ≡ ((i + 1) + n) + 1 = omega arith in
@@ -213,7 +218,7 @@ module _ (ps ord deep sizes above : List ℕ) (m : Members ps ord deep sizes abo
               rw (z, keep-same (groupRoot groupLimit ps) (order ps) ((i + 1) + n) (omega (arith, order-length ps little tree)) e) (go n (omega arith))
 
       pub gather-more : (shape over : ℕ) → shape ≡ shapeNumber groupLimit (walkRound (under ps v)) → over ≡ Option·getD (parent ps v) topMark
-          → Gathered ps (i + getD sizes i 0) (at + 3) (set (set (set cells at i) (at + 1) shape) (at + 2) over)
+          → Gathered ps old (i + getD sizes i 0) (at + 3) (set (set (set cells at i) (at + 1) shape) (at + 2) over)
       gather-more shape over s o =
           rw group-size
-          (record { words = words-hop _ _ (words-more shape over s o); ended = ended-group ps little tree groupLimit i (omega (arith, group-room, group-size, entries)) starts (g .ended) })
+          (record { room = g .room; words = words-hop _ _ (words-more shape over s o); ended = ended-group ps little tree groupLimit i (omega (arith, group-room, group-size, entries)) starts (g .ended) })

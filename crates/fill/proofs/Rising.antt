@@ -3,23 +3,24 @@ use mathlib.Core.Path.{_≡_, refl, sym, ap, subst, _∙_}
 use mathlib.Core.List.{List, flatten}
 use mathlib.Core.Bool.{true, false}
 use mathlib.Core.Option.{some, Option·some-injective}
-use Prim.Native.Nat.{ℕ, _+_, _*_, _-_, _≤_, _<_, min}
+use Prim.Native.Nat.{ℕ, _+_, _*_, _-_, _≤_, _<_}
 use native.Mathlib.Omega.{arith}
 use native.Mathlib.Decide.{ℕ-discrete, decLt, decLe}
 use borrow.Author.Count.{below-more}
-use lib.ListN.{length, getD, set, length-set, List·getD-eq-default, getD-replicate, length-replicate, replicate}
-use lib.Seq.{getD-set-same, getD-set-other}
-use Rattle.base.specs.Limits.{mostEntries}
+use lib.ListN.{length, getD, set, take, length-set}
+use lib.Seq.{getD-set-same, getD-set-other, getD-take, length-take-le}
+use Rattle.base.specs.Lists.{padded}
 use Rattle.base.proofs.Lists.{clash}
+use Rattle.base.proofs.Joined.{padded-length, padded-in, padded-past}
 use Rattle.tree.specs.Parents.{topMark, up, depth}
-use Rattle.tree.specs.Forest.{height, position, pathTop}
+use Rattle.tree.specs.Forest.{position, pathTop}
 use Rattle.tree.specs.Faults.{Tree}
 use Rattle.tree.proofs.Climbing.{entry-in, entry-some, up-first, up-add}
 use Rattle.tree.proofs.Depths.{up-some}
 use Rattle.tree.proofs.Positions.{order-length, position-in, at-position, order-in}
 use Rattle.table.specs.Ladders.{ladders, ladPos}
 use Rattle.table.specs.Table.{ladderCells}
-use Rattle.climbs.proofs.Ladders.{rise, ladpos-top, ladpos-in, ladder-own, lemma-5}
+use Rattle.climbs.proofs.Ladders.{rise, ladpos-in, ladder-own, lemma-5}
 use Rattle.climbs.proofs.Room.{ladders-fit}
 use Rattle.climbs.proofs.Filling.{filled}
 use Rattle.fill.specs.Arrays.{entryAt, abovePosition, Climbs, Risen}
@@ -92,12 +93,11 @@ risen-more ps v place k old new x h b e r =
 abbrev pub Right : List ℕ → List ℕ → ℕ → Type 0
 Right ps cells j = getD cells j 0 ≡ getD (flatten (ladders ps)) j 0
 
--- the words of the first i positions are right, and those behind all ladders
+-- the words of the first i positions are right
 pub record Filling (ps : List ℕ) (i : ℕ) (cells : List ℕ) : Type 0 where
   pub size : length cells ≡ 2 * length ps
   pub own : (k : ℕ) → k < i → Right ps cells (ladPos ps (entryAt ps k))
   pub over : (k : ℕ) → k < i → pathTop ps (entryAt ps k) ≡ true → (m : ℕ) → 1 ≤ m → m ≤ rise ps (entryAt ps k) → Right ps cells (ladPos ps (entryAt ps k) - m)
-  pub past : (j : ℕ) → length (flatten (ladders ps)) ≤ j → Right ps cells j
 
 -- a right word keeps every other
 right-set : (ps cells : List ℕ) (at x j : ℕ) → at < length cells → x ≡ getD (flatten (ladders ps)) at 0 → Right ps cells j → Right ps (set cells at x) j
@@ -107,30 +107,38 @@ right-set ps cells at x j h e r = go (ℕ-discrete j at)
     go (yes q) = rw q (getD-set-same cells at x 0 h ∙ e)
     go (no q) = getD-set-other cells at j x 0 q ∙ r
 
+pub fill-none : (ps cells : List ℕ) → length cells ≡ 2 * length ps → Filling ps 0 cells
+fill-none ps cells e = record { size = e; own = λ k h. absurd (omega arith); over = λ k h. absurd (omega arith) }
+
 module _ (ps : List ℕ) (small : length ps ≤ topMark) (tree : Tree ps) where
-  pub fill-none : (n : ℕ) (cells : List ℕ) → n ≡ 2 * length ps → cells ≡ replicate n 0 → Filling ps 0 cells
-  fill-none n cells b e = record {
-    size = ap length e ∙ length-replicate {A = ℕ} n 0 ∙ b;
-    own = λ k h. absurd (omega arith);
-    over = λ k h. absurd (omega arith);
-    past = λ j h. ap (λ l. getD l j 0) e ∙ go j (decLt j n) ∙ sym (List·getD-eq-default (flatten (ladders ps)) 0 h);
-  }
+  -- with the words behind all ladders set to 0, the section is LADDERS
+  pub fill-end : (words : ℕ) (cells : List ℕ) → words ≡ length (flatten (ladders ps)) → Filling ps (length ps) cells → padded (length cells) (take words cells) ≡ ladderCells ps
+  fill-end words cells z s = filled ps small tree new (padded-length (length cells) (take words cells) (omega (arith, long, fits)) ∙ s .size) own over
+      (λ j h b. padded-past (length cells) (take words cells) j (omega (arith, long)))
     where
-      go : (j : ℕ) → Dec (j < n) → getD (replicate {A = ℕ} n 0) j 0 ≡ 0
-      go j (yes l) = getD-replicate n j 0 0 l
-      go j (no l) = List·getD-eq-default (replicate {A = ℕ} n 0) 0 (omega (arith, length-replicate {A = ℕ} n 0))
+      new : List ℕ
+      new = padded (length cells) (take words cells)
 
-  pub fill-end : (cells : List ℕ) → Filling ps (length ps) cells → cells ≡ ladderCells ps
-  fill-end cells s = filled ps small tree cells (s .size) own over (λ j h b. s .past j h ∙ List·getD-eq-default (flatten (ladders ps)) 0 h)
-    where
-      own : (v : ℕ) → v < length ps → getD cells (ladPos ps v) 0 ≡ v
-      own v h = (rw (at-position ps small tree v h) at (s .own (position ps v) (position-in ps small tree v h))) ∙ ladder-own ps small tree v h
+      fits : words ≤ length cells
+      fits = omega (arith, s .size, ladders-fit ps small tree)
 
-      over : (t k u : ℕ) → t < length ps → pathTop ps t ≡ true → 1 ≤ k → k ≤ rise ps t → up ps k t ≡ some u → getD cells (ladPos ps t - k) 0 ≡ u
+      long : length (take words cells) ≡ words
+      long = length-take-le words cells fits
+
+      kept : (j : ℕ) → j < words → getD new j 0 ≡ getD cells j 0
+      kept j h = padded-in (length cells) (take words cells) j (omega (arith, long)) ∙ getD-take words cells j 0 h
+
+      own : (v : ℕ) → v < length ps → getD new (ladPos ps v) 0 ≡ v
+      own v h =
+          kept (ladPos ps v) (omega (arith, ladpos-in ps small tree v h))
+          ∙ (rw (at-position ps small tree v h) at (s .own (position ps v) (position-in ps small tree v h)))
+          ∙ ladder-own ps small tree v h
+
+      over : (t k u : ℕ) → t < length ps → pathTop ps t ≡ true → 1 ≤ k → k ≤ rise ps t → up ps k t ≡ some u → getD new (ladPos ps t - k) 0 ≡ u
       over t k u h b a l e =
           let q = at-position ps small tree t h in
           let w = s .over (position ps t) (position-in ps small tree t h) (ap (pathTop ps) q ∙ b) k a (rw q l) in
-          (rw q at w) ∙ lemma-5 ps small tree t k u (omega arith) e .1
+          kept (ladPos ps t - k) (omega (arith, ladpos-in ps small tree t h)) ∙ (rw q at w) ∙ lemma-5 ps small tree t k u (omega arith) e .1
 
   module _ (i : ℕ) (h : i < length ps) where
     abbrev v : ℕ
@@ -149,7 +157,6 @@ module _ (ps : List ℕ) (small : length ps ≤ topMark) (tree : Tree ps) where
       size = n ∙ s .size;
       own = below-more (λ k. Right ps new (ladPos ps (entryAt ps k))) i (λ k l. keeps _ (s .own k l)) own;
       over = below-more (λ k. pathTop ps (entryAt ps k) ≡ true → (m : ℕ) → 1 ≤ m → m ≤ rise ps (entryAt ps k) → Right ps new (ladPos ps (entryAt ps k) - m)) i (λ k l t m a b. keeps _ (s .over k l t m a b)) over;
-      past = λ j l. keeps j (s .past j l);
     }
 
     own-right : (cells : List ℕ) → Filling ps i cells → (j : ℕ) → Right ps cells j → Right ps (set cells (ladPos ps v) v) j

@@ -1,13 +1,14 @@
--- Words written at distinct places, one after another. Assumes nothing.
+-- Words written at distinct places, one after another, and a tail set to 0. Assumes nothing.
 use mathlib.Core.Path.{_≡_, refl, sym, ap, _∙_}
-use mathlib.Core.List.{List, map}
-use Prim.Native.Nat.{ℕ, _+_, _≤_, _<_}
+use mathlib.Core.List.{List, _++_, map, append-nil}
+use Prim.Native.Nat.{ℕ, _+_, _-_, _≤_, _<_}
 use native.Mathlib.Omega.{arith}
 use borrow.Author.Count.{below-more}
-use lib.ListN.{length, getD, set, length-set, length-map, List·getD-map}
-use lib.Seq.{getD-set-same, getD-set-other, ext-getD}
+use borrow.Rule.Slice.PartMut.{midOf, putMid, mid-len, post-is}
+use lib.ListN.{length, getD, set, take, replicate, length-set, length-map, drop-of-length-le, List·getD-map}
+use lib.Seq.{getD-set-same, getD-set-other, length-take-le, ext-getD}
 use Rattle.base.specs.Limits.{mostEntries}
-use Rattle.base.specs.Lists.{below}
+use Rattle.base.specs.Lists.{below, padded}
 use Rattle.base.proofs.Lists.{below-at, each-length, at-any}
 use Rattle.tree.specs.Forest.{order, position}
 use Rattle.tree.specs.Faults.{Tree}
@@ -96,3 +97,10 @@ pub order-indexes : (ps : List ℕ) → length ps ≤ mostEntries → Tree ps �
 order-indexes ps few tree ord cells e n =
     let q : length ord ≡ length ps = ap length e ∙ order-length ps (omega arith) tree in
     record { room = omega arith; inside = λ i h. rw e (omega (arith, order-in ps (omega arith) tree i (omega arith))) }
+
+-- an array whose words from a on were lent and set to 0
+pub wiped : (l y : List ℕ) (a : ℕ) → a ≤ length l → y ≡ replicate (length (midOf a (length l - a) l)) 0 → putMid a (length l - a) l y ≡ padded (length l) (take a l)
+unfolding padded
+wiped l y a h e =
+    let zeros : y ≡ replicate (length l - length (take a l)) 0 = e ∙ ap (λ k. replicate k 0) (mid-len a (length l) l (omega arith) ∙ ap (λ k. length l - k) (sym (length-take-le a l h))) in
+    ap (λ r. take a l ++ (y ++ r)) (post-is a (length l) l h ∙ drop-of-length-le l {i = length l} (omega arith)) ∙ ap (λ r. take a l ++ r) (append-nil y ∙ zeros)

@@ -6,7 +6,7 @@ use Prim.Native.Nat.{ℕ, _+_, _-_, _*_, _≤_, _<_, min}
 use native.Mathlib.Omega.{arith}
 use native.Mathlib.Numerals.{add-one}
 use borrow.Author.Count.{below-more}
-use borrow.Rule.Slice.PartMut.{midOf}
+use borrow.Rule.Slice.PartMut.{midOf, putMid}
 use lib.ListN.{length, getD, set, take, replicate, length-set, length-append, length-map, length-take}
 use lib.Seq.{ext-getD, getD-set-same, getD-set-other}
 use Rattle.base.specs.Limits.{mostEntries}
@@ -24,10 +24,10 @@ use Rattle.climbs.proofs.Paths.{path-top-no}
 use Rattle.climbs.proofs.OwnPaths.{topsWithin}
 use Rattle.climbs.proofs.Ladders.{rise, rungsWithin, ladpos-next, ladpos-in}
 use Rattle.climbs.proofs.Room.{ladders-fit}
-use Rattle.climbs.proofs.Running.{tops-more, tops-same, tops-none, tops-all, rungs-more, rungs-same, rungs-none, rungs-fit, ladpos-met}
+use Rattle.climbs.proofs.Running.{tops-more, tops-same, tops-none, tops-all, rungs-more, rungs-same, rungs-none, rungs-all, rungs-fit, ladpos-met}
 use Rattle.fill.specs.Arrays.{entryAt, abovePosition, Paths, Climbs, Risen, Upright, Pathed}
 use Rattle.fill.proofs.Laddering.{Over, array-word, over-of, top-start, above-less, top-no, top-is}
-use Rattle.fill.proofs.Spreading.{array-at}
+use Rattle.fill.proofs.Spreading.{array-at, wiped}
 use Rattle.fill.proofs.Rising.{ord-length, Filling, fill-none, fill-end, fill-inner, fill-top, place-room}
 
 -- the words of the regions, where n is the number of entries
@@ -146,8 +146,8 @@ pub record Standing (ps : List ℕ) (i paths words : ℕ) (space cells : List �
   pub filling : Filling ps i cells
 
 module _ (ps : List ℕ) (n : ℕ) (e : n ≡ length ps) where
-  pub stand-none : (space cells : List ℕ) (m : ℕ) → Upright ps space → m ≡ 2 * n → cells ≡ replicate m 0 → Standing ps 0 0 0 space cells
-  stand-none space cells m u b z =
+  pub stand-none : (space cells : List ℕ) → Upright ps space → length cells ≡ 2 * n → Standing ps 0 0 0 space cells
+  stand-none space cells u b =
       let few = u .few in
       let small : length ps ≤ topMark = omega (arith, few) in
       record {
@@ -155,11 +155,18 @@ module _ (ps : List ℕ) (n : ℕ) (e : n ≡ length ps) where
         paths-are = sym (ap length (tops-none ps small (u .tree)));
         words-are = sym (rungs-none ps small (u .tree));
         placed = λ k h. absurd (omega arith);
-        filling = fill-none ps small (u .tree) m cells (omega (arith, b, e)) z;
+        filling = fill-none ps cells (omega (arith, b, e));
       }
 
-  pub stand-end : (i paths words : ℕ) (space cells : List ℕ) → i ≡ n → Standing ps i paths words space cells → Pathed ps paths space cells
-  stand-end i paths words space cells z s =
+  pub words-room : (i paths words : ℕ) (space cells : List ℕ) → i ≤ n → Standing ps i paths words space cells → words ≤ length cells
+  words-room i paths words space cells h s =
+      let few = s .upright .few in
+      omega (arith, s .words-are, rungs-fit ps (omega arith) (s .upright .tree) i (omega (arith, e)), s .filling .size)
+
+  -- all paths, once the words behind their ladders are set to 0
+  pub stand-end : (i paths words : ℕ) (space cells tail : List ℕ) → i ≡ n → Standing ps i paths words space cells → tail ≡ replicate (length (midOf words (length cells - words) cells)) 0
+      → Pathed ps paths space (putMid words (length cells - words) cells tail)
+  stand-end i paths words space cells tail z s b =
       let u = s .upright in
       let few = u .few in
       let small : length ps ≤ topMark = omega (arith, few) in
@@ -174,7 +181,8 @@ module _ (ps : List ℕ) (n : ℕ) (e : n ≡ length ps) where
             sym (view-at (length ps * 2) (length ps) space k (length ps * 2 + k) (omega (arith, wide)) refl)
             ∙ s .placed k (omega (arith, wide, all))
             ∙ sym (array-at ps few (u .tree) (ladPos ps) k (omega (arith, wide))));
-        rungs-are = fill-end ps small (u .tree) cells (rw all at (s .filling));
+        rungs-are = wiped cells tail words (words-room i paths words space cells (omega (arith, z)) s) b
+            ∙ fill-end ps small (u .tree) words cells (s .words-are ∙ ap (rungsWithin ps) all ∙ rungs-all ps small (u .tree)) (rw all at (s .filling));
       }
 
   -- one position further
@@ -196,9 +204,6 @@ module _ (ps : List ℕ) (n : ℕ) (e : n ≡ length ps) where
 
     pub paths-small : paths ≤ i
     paths-small = omega (arith, s .paths-are, keep-most (pathTop ps) (take i (order ps)), length-take i (order ps))
-
-    pub rungs-room : length cells ≡ 2 * n
-    rungs-room = omega (arith, s .filling .size, e)
 
     pub own-room : ladPos ps v < length cells
     own-room = place-room ps least tree i inside cells (s .filling)

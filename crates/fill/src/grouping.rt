@@ -26,7 +26,6 @@ pub fn groups(order: &[u32], depth: &[u32], size: &[u32], above: &[u32], cells: 
     requires { ⌜ ((ps : List ℕ) × Members ps (now order) (now depth) (now size) (now above)) × (length (now cells) ≡ 3 * length (now order)) ⌝ }
     ensures { λ _. ⌜ ((ps : List ℕ) → Members ps (now (order .entry)) (now (depth .entry)) (now (size .entry)) (now (above .entry)) → Grouped ps (now (cells .exit))) ⌝ }
 {
-    set_all(cells, 0);
     let mut cell: usize = 0;
     let mut next = Position(0);
     while (next.0 as usize) < order.len() {
@@ -42,4 +41,5 @@ pub fn groups(order: &[u32], depth: &[u32], size: &[u32], above: &[u32], cells: 
             next = Position(at.0 + 1);
         }
     }
+    set_all(&mut cells[cell..], 0);
 }

@@ -86,7 +86,6 @@ pub fn paths(n: usize, space: &mut [u32], cells: &mut [u32]) -> u32
     requires { ⌜ ((ps : List ℕ) × Upright ps (now space) × (n ≡ length ps)) × (length (now cells) ≡ 2 * n) ⌝ }
     ensures { λ r. ⌜ ((ps : List ℕ) → Upright ps (now (space .entry)) → n ≡ length ps → Pathed ps r (now (space .exit)) (now (cells .exit))) ⌝ }
 {
-    set_all(cells, 0);
     let mut paths: u32 = 0;
     let mut words: u32 = 0;
     let mut next = Position(0);
@@ -103,5 +102,6 @@ pub fn paths(n: usize, space: &mut [u32], cells: &mut [u32]) -> u32
             settle(n, space, at, place, cells);
         }
     }
+    set_all(&mut cells[words as usize..], 0);
     paths
 }

@@ -1,12 +1,13 @@
--- `laying::paths` meets its contract: the loop has laid the paths of the positions before the next. Assumes nothing.
+-- `laying::paths` meets its contract: the loop has laid the paths of the positions before the next, and the words behind all ladders are then set to 0.
+-- Assumes nothing.
 use mathlib.Core.Path.{_≡_, sym, ap, _∙_}
 use mathlib.Core.List.{List}
 use Prim.Native.Nat.{ℕ, _+_, _-_, _*_, _≤_}
 use native.Mathlib.Omega.{arith}
 use borrow.Author.Needs.{needs}
-use lib.ListN.{length, getD, length-set, length-replicate}
+use lib.ListN.{length, getD}
 use Rattle.fill.specs.Arrays.{Upright}
-use Rattle.fill.proofs.Standing.{wide, height-kept, Standing, stand-none, stand-end, placed-so, paths-small, rungs-room, own-room, own-place, words-small, stand-top, stand-next}
+use Rattle.fill.proofs.Standing.{wide, height-kept, Standing, stand-none, stand-end, words-room, placed-so, paths-small, own-room, own-place, words-small, stand-top, stand-next}
 use Rattle.fill.proofs.laying.paths.Statement.{statement}
 use Rattle.fill.proofs.laying.paths.Tie as tie
 
@@ -25,19 +26,18 @@ abbrev μ-loop : tie.MeasureT-loop
 
 loop-holds : tie.Need-loop-holds Inv-loop μ-loop
 loop-holds c =
-    let s = c .before .before .before .before .before .before in
-    let wiped = c .before .before .set-all .ensures in
+    let s = c .before .before in
     let (ps, u, e) = s .pre .0 in
     let few = u .few in (
       omega arith,
-      record { few = omega (arith, few, e); wide = wide ps (s .args .space .now) (s .args .n) u e; room = ap length wiped ∙ length-replicate {A = ℕ} (length (s .args .cells .now)) 0 ∙ s .pre .1 },
-      λ ps u e. stand-none ps (s .args .n) e (s .args .space .now) _ (length (s .args .cells .now)) u (s .pre .1) wiped,
+      record { few = omega (arith, few, e); wide = wide ps (s .args .space .now) (s .args .n) u e; room = s .pre .1 },
+      λ ps u e. stand-none ps (s .args .n) e (s .args .space .now) (s .args .cells .now) u (s .pre .1),
     )
 
 path-top-requires : tie.Need-path-top-requires Inv-loop μ-loop
 path-top-requires c κs =
     let l = c .before .before .before .before .loop in
-    let s = c .before .before .before .before .before .before .before .before .before .before .before in
+    let s = c .before .before .before .before .before .before .before in
     let (ps, u, e) = s .pre .0 in
     let at = l .next .0 in
     let st = l .inv .2 ps u e in
@@ -46,7 +46,7 @@ path-top-requires c κs =
 top-place-requires : tie.Need-top-place-requires Inv-loop μ-loop
 top-place-requires c κs =
     let l = c .before .before .before .before .before .before .before .before .loop in
-    let s = c .before .before .before .before .before .before .before .before .before .before .before .before .before .before .before in
+    let s = c .before .before .before .before .before .before .before .before .before .before .before in
     let (ps, u, e) = s .pre .0 in
     let at = l .next .0 in
     let st = l .inv .2 ps u e in
@@ -59,7 +59,7 @@ top-place-requires c κs =
 settle-requires : tie.Need-settle-requires Inv-loop μ-loop
 settle-requires c κs =
     let l = c .before .before .before .before .before .before .before .before .before .before .before .before .before .loop in
-    let s = c .before .before .before .before .before .before .before .before .before .before .before .before .before .before .before .before .before .before .before .before in
+    let s = c .before .before .before .before .before .before .before .before .before .before .before .before .before .before .before .before in
     let (ps, u, e) = s .pre .0 in
     let at = l .next .0 in
     let st = l .inv .2 ps u e in
@@ -77,7 +77,7 @@ read-height c = omega (arith, c .before .before .before .before .before .before 
 add-height : tie.Need-add-words-2 Inv-loop μ-loop
 add-height c =
     let l = c .before .before .before .before .before .before .before .before .before .before .before .before .before .before .before .before .before .before .before .before .loop in
-    let s = c .before .before .before .before .before .before .before .before .before .before .before .before .before .before .before .before .before .before .before .before .before .before .before .before .before .before .before in
+    let s = c .before .before .before .before .before .before .before .before .before .before .before .before .before .before .before .before .before .before .before .before .before .before .before in
     let (ps, u, e) = s .pre .0 in
     let at = l .next .0 in
     let st = l .inv .2 ps u e in
@@ -89,7 +89,7 @@ add-height c =
 add-paths : tie.Need-add-paths Inv-loop μ-loop
 add-paths c =
     let l = c .before .before .before .before .before .before .before .before .before .before .before .before .before .before .before .before .before .before .before .before .loop in
-    let s = c .before .before .before .before .before .before .before .before .before .before .before .before .before .before .before .before .before .before .before .before .before .before .before .before .before .before .before in
+    let s = c .before .before .before .before .before .before .before .before .before .before .before .before .before .before .before .before .before .before .before .before .before .before .before in
     let (ps, u, e) = s .pre .0 in
     let at = l .next .0 in
     let st = l .inv .2 ps u e in
@@ -98,7 +98,7 @@ add-paths c =
 loop-again : tie.Need-loop-again Inv-loop μ-loop
 loop-again c =
     let l = c .before .before .before .before .before .before .before .before .before .before .before .before .before .before .before .before .before .before .before .before .loop in
-    let s = c .before .before .before .before .before .before .before .before .before .before .before .before .before .before .before .before .before .before .before .before .before .before .before .before .before .before .before in
+    let s = c .before .before .before .before .before .before .before .before .before .before .before .before .before .before .before .before .before .before .before .before .before .before .before in
     let n = s .args .n in
     let at = l .next .0 in
     let low = c .before .before .before .before .before .before .before .before .before .before .before .before .before .before .before .before .before .before .if1 .taken in
@@ -121,7 +121,7 @@ loop-again c =
 next-place-requires : tie.Need-next-place-requires Inv-loop μ-loop
 next-place-requires c κs =
     let l = c .before .before .before .before .before .before .before .loop in
-    let s = c .before .before .before .before .before .before .before .before .before .before .before .before .before .before in
+    let s = c .before .before .before .before .before .before .before .before .before .before in
     let (ps, u, e) = s .pre .0 in
     let at = l .next .0 in
     let st = l .inv .2 ps u e in
@@ -131,7 +131,7 @@ next-place-requires c κs =
 settle-requires-2 : tie.Need-settle-requires-2 Inv-loop μ-loop
 settle-requires-2 c κs =
     let l = c .before .before .before .before .before .before .before .before .before .before .loop in
-    let s = c .before .before .before .before .before .before .before .before .before .before .before .before .before .before .before .before .before in
+    let s = c .before .before .before .before .before .before .before .before .before .before .before .before .before in
     let (ps, u, e) = s .pre .0 in
     let at = l .next .0 in
     let st = l .inv .2 ps u e in
@@ -146,7 +146,7 @@ settle-requires-2 c κs =
 loop-again-2 : tie.Need-loop-again-2 Inv-loop μ-loop
 loop-again-2 c =
     let l = c .before .before .before .before .before .before .before .before .before .before .before .before .before .before .before .loop in
-    let s = c .before .before .before .before .before .before .before .before .before .before .before .before .before .before .before .before .before .before .before .before .before .before in
+    let s = c .before .before .before .before .before .before .before .before .before .before .before .before .before .before .before .before .before .before in
     let n = s .args .n in
     let at = l .next .0 in
     let settle = c .before .before .before .before .settle2 in
@@ -164,19 +164,28 @@ loop-again-2 c =
           stand-next ps n e at (l .paths) (l .words) (l .space) (l .cells) (omega arith) st (next .result) _ _ t own (settle .ensures .0) (settle .ensures .1),
     )
 
+-- the words of all ladders fit the section
+fits : (c : tie.Else1 Inv-loop μ-loop) → c .before .before .loop .words ≤ length (c .before .before .loop .cells)
+fits c =
+    let l = c .before .before .loop in
+    let s = c .before .before .before .before .before in
+    let (ps, u, e) = s .pre .0 in
+    words-room ps (s .args .n) e (l .next .0) (l .paths) (l .words) (l .space) (l .cells) (l .inv .0) (l .inv .2 ps u e)
+
 same-length : tie.Need-same-length Inv-loop μ-loop
 same-length c =
     let s = c .before .before .before .before .before .before .before .before .before in
     let (ps, u, e) = s .pre .0 in
-    c .before .before .loop .inv .1 .wide ∙ sym (wide ps (s .args .space .now) (s .args .n) u e)
+    c .before .before .before .before .before .before .loop .inv .1 .wide ∙ sym (wide ps (s .args .space .now) (s .args .n) u e)
 
 same-length-2 : tie.Need-same-length-2 Inv-loop μ-loop
-same-length-2 c = c .before .before .loop .inv .1 .room ∙ sym (c .before .before .before .before .before .before .before .before .before .pre .1)
+same-length-2 c = c .before .cells4 .given .1 ∙ c .before .before .before .before .before .before .loop .inv .1 .room ∙ sym (c .before .before .before .before .before .before .before .before .before .pre .1)
 
 returns : tie.Need-returns Inv-loop μ-loop
 returns c ps u e =
-    let l = c .before .before .loop in
-    stand-end ps (c .before .before .before .before .before .before .before .before .before .args .n) e (l .next .0) (l .paths) (l .words) (l .space) (l .cells) (omega arith) (l .inv .2 ps u e)
+    let l = c .before .before .before .before .before .before .loop in
+    let z = c .before .before .set-all in
+    stand-end ps (c .before .before .before .before .before .before .before .before .before .args .n) e (l .next .0) (l .paths) (l .words) (l .space) (l .cells) (z .last .0) (omega arith) (l .inv .2 ps u e) (z .ensures)
 
 pub paths-spec : {M : Type 1} → statement M
 paths-spec =
@@ -184,7 +193,6 @@ paths-spec =
     (tie.spec
     Inv-loop
     μ-loop
-    (λ c κs. search needs)
     loop-holds
     (λ c. search needs)
     (λ c. search needs)
@@ -204,6 +212,12 @@ paths-spec =
     settle-requires-2
     (λ c. search needs)
     loop-again-2
+    (λ c. omega (arith, fits c))
+    (λ c. omega (arith, fits c))
+    (λ c. omega (arith, fits c))
+    (λ c. omega (arith, fits c))
+    (λ c. search needs)
+    (λ c κs. search needs)
     same-length
     same-length-2
     returns)
