@@ -45,11 +45,6 @@ module _ (l : List ℕ) (a : ℕ) (x : List ℕ) (room : a + length x ≤ length
       let e : (m : List ℕ) → drop b m ≡ drop k (drop (a + length x) m) = λ m. ap (λ j. drop j m) z ∙ sym (drop-drop k (a + length x) m) in
       ap (take c) (e (put l a x) ∙ ap (drop k) put-drop ∙ sym (e l))
 
-  -- other words in the same place
-  pub put-again : (y : List ℕ) → length y ≡ length x → put (put l a x) a y ≡ put l a y
-  unfolding put
-  put-again y e = rw (e) (ap (λ r. take a (put l a x) ++ (y ++ r)) put-drop ∙ ap (λ r. r ++ (y ++ drop (a + length x) l)) (take-at (take a l) (x ++ drop (a + length x) l) a (simp length-take (omega arith))))
-
 pub put-none : (l : List ℕ) (a : ℕ) → put l a [] ≡ l
 unfolding put
 put-none l a = let z : a + 0 ≡ a = omega arith in ap (λ k. take a l ++ drop k l) z ∙ take-append-drop a l

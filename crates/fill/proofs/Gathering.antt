@@ -111,7 +111,7 @@ module _ (ps ord deep sizes above : List ℕ) (m : Members ps ord deep sizes abo
   little = omega (arith, few)
 
   pub climbs-from : Climbs ps ord above
-  climbs-from = record { few = few; tree = tree; order-is = m .order-is; aboves = m .aboves }
+  climbs-from = record { few = few; tree = tree; order-is = m .families .order-is; aboves = m .aboves }
 
   pub entries : length ord ≡ length ps
   entries = ord-length ps ord above climbs-from

@@ -1,6 +1,6 @@
--- KIND by position: the groups, the jump entries, and the words one position further. Assumes nothing.
+-- KIND: the groups, the jump entries, and the words one position further. Assumes nothing.
 use mathlib.Core.Path.{_≡_, refl, sym, ap, _∙_}
-use mathlib.Core.List.{List, [], _∷_, map}
+use mathlib.Core.List.{List, [], _∷_}
 use mathlib.Core.Bool.{Bool, true, false, cond}
 use mathlib.Core.Logic.{_⊎_, inl, inr}
 use mathlib.Core.Option.{some}
@@ -12,7 +12,7 @@ use borrow.Author.Count.{below-more}
 use lib.ListN.{length, getD, set, take, length-append, length-take}
 use lib.Seq.{take-suc, take-all}
 use Rattle.base.specs.Limits.{mostEntries, groupLimit, microMark}
-use Rattle.base.specs.Lists.{keep, every}
+use Rattle.base.specs.Lists.{below, keep, every}
 use Rattle.base.proofs.Lists.{clash}
 use Rattle.base.proofs.Counts.{one, times}
 use Rattle.base.proofs.Keeping.{keep-append, keep-most, every-true, every-false}
@@ -28,8 +28,8 @@ use Rattle.tree.proofs.Intervals.{ancestor-self, ancestor-parent, ancestor-firs
 use Rattle.table.specs.Groups.{micro, groupRoot, groupRoots, jumpNode, jumpNodes, kind}
 use Rattle.climbs.proofs.Jumps.{size-micro, size-macro, jump-parts, jump-is, jump-not, macro-up, micro-down, macro-kind}
 use Rattle.climbs.proofs.Groups.{rootsWithin, Grouped, grouped-under, root-micro}
-use Rattle.fill.specs.Arrays.{Families}
-use Rattle.fill.proofs.Spreading.{Ran, ran-none, ran-more, ran-map}
+use Rattle.fill.specs.Arrays.{Indexes, Families}
+use Rattle.fill.proofs.Spreading.{Written, written-none, written-room, written-more, written-all, order-indexes}
 use Rattle.fill.proofs.Laddering.{array-length, array-word}
 use Rattle.fill.proofs.Rooting.{Ended, macro-none, root-next, root-none, in-family, ended-same, ended-root}
 
@@ -117,6 +117,31 @@ module _ (ps : List ℕ) (small : length ps ≤ topMark) (tree : Tree ps) (L : �
       go true j = first (ancestor-first ps small tree (on m) (on i) (interval ps small tree (on m) (on i) hm hi .1 (omega (arith, at-m, at-i), omega (arith, at-m, at-i)))) j
       go false j = refl
 
+-- what SIZE says
+module _ (ps ord sizes : List ℕ) (f : Families ps ord sizes) where
+  pub sizes-length : length sizes ≡ length ps
+  sizes-length = array-length ps (f .few) (f .tree) (size ps) sizes (f .sizes-are)
+
+  pub orders-length : length ord ≡ length sizes
+  orders-length = let few = f .few in ap length (f .order-is) ∙ order-length ps (omega (arith, few)) (f .tree) ∙ sym sizes-length
+
+  pub size-word : (i : ℕ) → i < length sizes → getD sizes i 0 ≡ size ps (getD (order ps) i 0)
+  size-word i h = array-word ps (f .few) (f .tree) (size ps) sizes (f .sizes-are) i (omega (arith, sizes-length))
+
+  pub size-small : (i : ℕ) → i < length sizes → getD sizes i 0 ≤ mostEntries
+  size-small i h =
+      let few = f .few in
+      omega (arith, size-word i h, family-room ps (omega (arith, few)) (f .tree) (getD (order ps) i 0) (order-in ps (omega (arith, few)) (f .tree) i (omega (arith, sizes-length))))
+
+  pub sizes-some : 0 < length sizes
+  sizes-some = let few = f .few in omega (arith, sizes-length, root-in ps (omega (arith, few)) (f .tree) .0)
+
+  pub word-micro : (i : ℕ) → i < length sizes → getD sizes i 0 ≤ groupLimit → micro groupLimit ps (getD (order ps) i 0) ≡ true
+  word-micro i h b = size-micro groupLimit ps (getD (order ps) i 0) (omega (arith, size-word i h))
+
+  pub word-macro : (i : ℕ) → i < length sizes → groupLimit < getD sizes i 0 → micro groupLimit ps (getD (order ps) i 0) ≡ false
+  word-macro i h b = size-macro groupLimit ps (getD (order ps) i 0) (omega (arith, size-word i h))
+
 -- the last macro position before i
 pub record Lasting (ps : List ℕ) (L i last : ℕ) : Type 0 where
   pub before : last < i
@@ -137,8 +162,8 @@ pub record Opened (ps : List ℕ) (L i groups root end : ℕ) : Type 0 where
   pub groups-are : groups ≡ length (rootsWithin L ps (i + 1))
   pub ended : Ended L ps (i + 1) end
 
--- KIND of the first i positions, with the groups and with the jump entries before the last macro position
-pub record Kinding (ps : List ℕ) (L : ℕ) (old : List ℕ) (i groups jumps root end last : ℕ) (cells : List ℕ) : Type 0 where
+-- KIND of the entries at the first i positions, with the groups and with the jump entries before the last macro position
+pub record Kinding (ps : List ℕ) (L : ℕ) (ord old : List ℕ) (i groups jumps root end last : ℕ) (cells : List ℕ) : Type 0 where
   pub groups-are : groups ≡ length (rootsWithin L ps i)
   pub jumps-are : jumps ≡ length (jumpsWithin L ps last)
   pub last-in : last ≤ i
@@ -146,10 +171,25 @@ pub record Kinding (ps : List ℕ) (L : ℕ) (old : List ℕ) (i groups jumps ro
   pub reaching : i < end → (root < i) × Group ps L root end
   pub no-macro : micro L ps (getD (order ps) 0 0) ≡ true → (last ≡ 0) × (length (jumpsWithin L ps i) ≡ 0)
   pub lasting : micro L ps (getD (order ps) 0 0) ≡ false → 0 < i → Lasting ps L i last
-  pub kinds : Ran (λ k. kind L ps (getD (order ps) k 0)) old i cells
+  pub kinds : Written ord (λ k. kind L ps (getD (order ps) k 0)) old i cells
 
-module _ (ps : List ℕ) (small : length ps ≤ topMark) (tree : Tree ps) (L : ℕ) (old : List ℕ) (room : length old ≡ length ps) where
-  pub kind-none : Kinding ps L old 0 0 0 0 0 0 old
+module _ (ps ord sizes : List ℕ) (f : Families ps ord sizes) (L : ℕ) (old : List ℕ) (room : length old ≡ length sizes) where
+  few : length ps ≤ mostEntries
+  few = f .few
+
+  tree : Tree ps
+  tree = f .tree
+
+  small : length ps ≤ topMark
+  small = omega (arith, few)
+
+  many : length sizes ≡ length ps
+  many = sizes-length ps ord sizes f
+
+  indexes : Indexes ord old
+  indexes = order-indexes ps few tree ord old (f .order-is) (room ∙ many)
+
+  pub kind-none : Kinding ps L ord old 0 0 0 0 0 0 old
   unfolding keep
   kind-none = record {
     groups-are = refl;
@@ -159,12 +199,15 @@ module _ (ps : List ℕ) (small : length ps ≤ topMark) (tree : Tree ps) (L : �
     reaching = λ b. absurd (omega arith);
     no-macro = λ e. (refl, refl);
     lasting = λ e h. absurd (omega arith);
-    kinds = ran-none _ old;
+    kinds = written-none ord _ old;
   }
 
-  module _ {i groups jumps root end last : ℕ} {cells : List ℕ} (h : i < length ps) (s : Kinding ps L old i groups jumps root end last cells) where
+  module _ {i groups jumps root end last : ℕ} {cells : List ℕ} (here : i < length sizes) (s : Kinding ps L ord old i groups jumps root end last cells) where
     abbrev v : ℕ
     v = getD (order ps) i 0
+
+    h : i < length ps
+    h = omega (arith, many)
 
     hv : v < length ps
     hv = order-in ps small tree i h
@@ -173,7 +216,14 @@ module _ (ps : List ℕ) (small : length ps ≤ topMark) (tree : Tree ps) (L : �
     at-v = position-of ps small tree i h
 
     ho : i < length (order ps)
-    ho = omega (arith, order-length ps small tree)
+    ho = omega (arith, h, order-length ps small tree)
+
+    next : i < length ord
+    next = omega (arith, orders-length ps ord sizes f)
+
+    -- the entry there has a cell
+    pub kind-room : getD ord i 0 < length cells
+    kind-room = written-room ord _ old indexes i cells next (s .kinds)
 
     -- a micro entry changes no jump entries
     module _ (m : micro L ps v ≡ true) where
@@ -223,11 +273,11 @@ module _ (ps : List ℕ) (small : length ps ≤ topMark) (tree : Tree ps) (L : �
       abbrev r : ℕ
       r = getD (order ps) root₁ 0
 
-      below : Ancestor ps r v
-      below = in-family ps small tree L root₁ i h (o .low) (omega (arith, o .high, o .group .ends))
+      under : Ancestor ps r v
+      under = in-family ps small tree L root₁ i h (o .low) (omega (arith, o .high, o .group .ends))
 
       member : Grouped L ps v r (length (rootsWithin L ps (position ps r))) (i - root₁)
-      member = grouped-under ps small tree L r v (i - root₁) (o .group .starts) below (omega (arith, at-v, o .low, position-of ps small tree root₁ (omega (arith, o .low))))
+      member = grouped-under ps small tree L r v (i - root₁) (o .group .starts) under (omega (arith, at-v, o .low, position-of ps small tree root₁ (omega (arith, h, o .low))))
 
       numbered : suc (length (rootsWithin L ps (position ps r))) ≡ groups₁
       numbered = member .upto ∙ ap (λ j. length (rootsWithin L ps (suc j))) at-v ∙ rw (← add-one i) (sym (o .groups-are))
@@ -239,9 +289,9 @@ module _ (ps : List ℕ) (small : length ps ≤ topMark) (tree : Tree ps) (L : �
       open-few = omega (arith, o .groups-are, count-small (groupRoot L ps) (order ps) (i + 1))
 
       inner-micro : micro L ps v ≡ true
-      inner-micro = micro-down ps small tree L r v below (root-micro L ps r (o .group .starts))
+      inner-micro = micro-down ps small tree L r v under (root-micro L ps r (o .group .starts))
 
-      pub kind-micro : (x : ℕ) → x ≡ microMark + 8 * (groups₁ - 1) + (i - root₁) → Kinding ps L old (i + 1) groups₁ jumps root₁ end₁ last (set cells i x)
+      pub kind-micro : (x : ℕ) → x ≡ microMark + 8 * (groups₁ - 1) + (i - root₁) → Kinding ps L ord old (i + 1) groups₁ jumps root₁ end₁ last (set cells (getD ord i 0) x)
       unfolding kind
       kind-micro x q = record {
         groups-are = o .groups-are;
@@ -251,7 +301,7 @@ module _ (ps : List ℕ) (small : length ps ≤ topMark) (tree : Tree ps) (L : �
         reaching = λ b. (omega (arith, o .low), o .group);
         no-macro = same-none inner-micro;
         lasting = λ f b. same-last inner-micro f (decLt 0 i);
-        kinds = ran-more _ old i cells x (omega arith) (q ∙ sym (rw inner-micro (omega (arith, member .kinded, numbered)))) (s .kinds);
+        kinds = written-more ord _ old indexes i cells next (s .kinds) x (q ∙ sym (rw inner-micro (omega (arith, member .kinded, numbered))));
       }
 
     -- a macro entry
@@ -259,7 +309,7 @@ module _ (ps : List ℕ) (small : length ps ≤ topMark) (tree : Tree ps) (L : �
       top-macro : micro L ps (getD (order ps) 0 0) ≡ false
       top-macro = macro-up ps small tree L (getD (order ps) 0 0) v (root-above-all ps small tree L v hv) hv m
 
-      pub kind-macro : (x : ℕ) → x ≡ length (jumpsWithin L ps i) → Kinding ps L old (i + 1) groups x root end i (set cells i x)
+      pub kind-macro : (x : ℕ) → x ≡ length (jumpsWithin L ps i) → Kinding ps L ord old (i + 1) groups x root end i (set cells (getD ord i 0) x)
       unfolding kind
       kind-macro x q = record {
         groups-are = rw (add-one i, count-more (groupRoot L ps) (order ps) i ho, macro-none L ps v m) (omega (arith, s .groups-are));
@@ -269,7 +319,7 @@ module _ (ps : List ℕ) (small : length ps ≤ topMark) (tree : Tree ps) (L : �
         reaching = λ b. let (low, o) = s .reaching (omega arith) in (omega arith, o);
         no-macro = λ f. clash (sym top-macro ∙ f);
         lasting = λ f b. record { before = omega arith; macro = m; quiet = λ k a c. absurd (omega arith); run = rw (add-one i) };
-        kinds = ran-more _ old i cells x (omega arith) (q ∙ sym (rw m (macro-kind ps small tree L v hv m ∙ ap (λ j. length (jumpsWithin L ps j)) at-v))) (s .kinds);
+        kinds = written-more ord _ old indexes i cells next (s .kinds) x (q ∙ sym (rw m (macro-kind ps small tree L v hv m ∙ ap (λ j. length (jumpsWithin L ps j)) at-v)));
       }
 
       before-last : Lasting ps L i last → length (jumpsWithin L ps i) ≡ jumps + one (jumpNode L ps (getD (order ps) last 0))
@@ -283,7 +333,7 @@ module _ (ps : List ℕ) (small : length ps ≤ topMark) (tree : Tree ps) (L : �
           go (no n) = absurd (omega (arith, s .last-in))
           go (yes n) =
               let o = s .lasting top-macro n in
-              sym (before-last o ∙ rw (jump-alone ps small tree L last i (omega (arith, o .before)) b (o .macro) (o .quiet)))
+              sym (before-last o ∙ rw (jump-alone ps small tree L last i (omega (arith, h, o .before)) b (o .macro) (o .quiet)))
 
       pub jumps-within : i < last + size ps (getD (order ps) last 0) → jumps ≡ length (jumpsWithin L ps i)
       jumps-within b = go (decLt 0 i)
@@ -295,9 +345,9 @@ module _ (ps : List ℕ) (small : length ps ≤ topMark) (tree : Tree ps) (L : �
               sym (before-last o ∙ rw (jump-left ps small tree L last i (o .before) h b m (o .quiet)) (omega arith))
 
   -- at the end
-  module _ {i groups jumps root end last : ℕ} {cells : List ℕ} (is : i ≡ length ps) (s : Kinding ps L old i groups jumps root end last cells) where
+  module _ {i groups jumps root end last : ℕ} {cells : List ℕ} (is : i ≡ length sizes) (s : Kinding ps L ord old i groups jumps root end last cells) where
     whole : take i (order ps) ≡ order ps
-    whole = take-all i (order ps) (omega (arith, order-length ps small tree))
+    whole = take-all i (order ps) (omega (arith, many, order-length ps small tree))
 
     pub groups-end : groups ≡ length (groupRoots L ps)
     groups-end = s .groups-are ∙ ap (λ l. length (keep (groupRoot L ps) l)) whole
@@ -311,34 +361,12 @@ module _ (ps : List ℕ) (small : length ps ≤ topMark) (tree : Tree ps) (L : �
     pub jumps-end : micro L ps (getD (order ps) 0 0) ≡ false → jumps + 1 ≡ length (jumpNodes L ps)
     jumps-end e =
         let n = root-in ps small tree .0 in
-        let o = s .lasting e (omega arith) in
+        let o = s .lasting e (omega (arith, many)) in
         let v = getD (order ps) last 0 in
-        let h : last < length ps = omega (arith, o .before) in
-        let b : last + size ps v ≤ i = omega (arith, position-of ps small tree last h, family-room ps small tree v (order-in ps small tree last h)) in
+        let h : last < length ps = omega (arith, many, o .before) in
+        let b : last + size ps v ≤ i = omega (arith, many, position-of ps small tree last h, family-room ps small tree v (order-in ps small tree last h)) in
         let q : length (jumpsWithin L ps i) ≡ jumps + 1 = o .run ∙ count-more (jumpNode L ps) (order ps) last (omega (arith, order-length ps small tree)) ∙ rw (jump-alone ps small tree L last i h b (o .macro) (o .quiet)) (omega (arith, s .jumps-are)) in
         sym q ∙ ap (λ l. length (keep (jumpNode L ps) l)) whole
 
-    pub kinds-end : length ps ≤ mostEntries → cells ≡ map (kind L ps) (order ps)
-    kinds-end few = ran-map ps few tree (kind L ps) old i cells room (omega arith) (s .kinds)
-
--- the same from SIZE
-module _ (ps sizes : List ℕ) (f : Families ps sizes) where
-  pub sizes-length : length sizes ≡ length ps
-  sizes-length = array-length ps (f .few) (f .tree) (size ps) sizes (f .sizes-are)
-
-  pub size-word : (i : ℕ) → i < length sizes → getD sizes i 0 ≡ size ps (getD (order ps) i 0)
-  size-word i h = array-word ps (f .few) (f .tree) (size ps) sizes (f .sizes-are) i (omega (arith, sizes-length))
-
-  pub size-small : (i : ℕ) → i < length sizes → getD sizes i 0 ≤ mostEntries
-  size-small i h =
-      let few = f .few in
-      omega (arith, size-word i h, family-room ps (omega (arith, few)) (f .tree) (getD (order ps) i 0) (order-in ps (omega (arith, few)) (f .tree) i (omega (arith, sizes-length))))
-
-  pub sizes-some : 0 < length sizes
-  sizes-some = let few = f .few in omega (arith, sizes-length, root-in ps (omega (arith, few)) (f .tree) .0)
-
-  pub word-micro : (i : ℕ) → i < length sizes → getD sizes i 0 ≤ groupLimit → micro groupLimit ps (getD (order ps) i 0) ≡ true
-  word-micro i h b = size-micro groupLimit ps (getD (order ps) i 0) (omega (arith, size-word i h))
-
-  pub word-macro : (i : ℕ) → i < length sizes → groupLimit < getD sizes i 0 → micro groupLimit ps (getD (order ps) i 0) ≡ false
-  word-macro i h b = size-macro groupLimit ps (getD (order ps) i 0) (omega (arith, size-word i h))
+    pub kinds-end : cells ≡ below (length ps) (kind L ps)
+    kinds-end = written-all ps few tree ord (f .order-is) (kind L ps) _ (λ v h. ap (kind L ps) (at-position ps small tree v h)) old i cells (indexes .room) (omega (arith, orders-length ps ord sizes f)) (s .kinds)

@@ -64,17 +64,18 @@ pub record Paths (ps long above : List ℕ) : Type 0 where
   pub longs : long ≡ map (longPosition ps) (order ps)
   pub aboves : above ≡ map (abovePosition ps) (order ps)
 
--- SIZE of a list that forms one tree
-pub record Families (ps sizes : List ℕ) : Type 0 where
+-- ORDER and SIZE of a list that forms one tree
+pub record Families (ps ord sizes : List ℕ) : Type 0 where
   pub few : length ps ≤ mostEntries
   pub tree : Tree ps
+  pub order-is : ord ≡ order ps
   pub sizes-are : sizes ≡ map (size ps) (order ps)
 
--- KIND by position, with the numbers of groups and of jump entries
+-- KIND, with the numbers of groups and of jump entries
 pub record Kinded (ps : List ℕ) (groups jumps : ℕ) (kinds : List ℕ) : Type 0 where
   pub groups-are : groups ≡ length (groupRoots groupLimit ps)
   pub jumps-are : jumps ≡ length (jumpNodes groupLimit ps)
-  pub kinds-are : kinds ≡ map (kind groupLimit ps) (order ps)
+  pub kinds-are : kinds ≡ below (length ps) (kind groupLimit ps)
 
 -- ORDER and ABOVE of a list that forms one tree
 pub record Climbs (ps ord above : List ℕ) : Type 0 where
@@ -110,8 +111,7 @@ pub record Pathed (ps : List ℕ) (paths : ℕ) (space cells : List ℕ) : Type 
 
 -- what GROUPS is laid from
 pub record Members (ps ord deep sizes above : List ℕ) : Type 0 where
-  pub families : Families ps sizes
-  pub order-is : ord ≡ order ps
+  pub families : Families ps ord sizes
   pub depths : deep ≡ map (depth ps) (order ps)
   pub aboves : above ≡ map (abovePosition ps) (order ps)
 

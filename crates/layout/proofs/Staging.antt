@@ -1,20 +1,14 @@
 -- What the stages of filling the table ask and leave, over plain lists. Assumes nothing.
-use mathlib.Core.Path.{_≡_, refl, ap, _∙_}
-use mathlib.Core.List.{List, map}
+use mathlib.Core.Path.{_≡_, _∙_}
+use mathlib.Core.List.{List}
 use Prim.Native.Nat.{ℕ, _+_, _*_, _-_, _≤_}
 use native.Mathlib.Omega.{arith}
-use borrow.Rule.Slice.PartMut.{midOf, putMid}
-use lib.ListN.{length, length-map}
-use Rattle.base.specs.Lists.{below, view, put}
-use Rattle.base.proofs.Lists.{each-length}
-use Rattle.base.proofs.Puts.{lent-view, lent-back, put-length, put-view, put-before, put-behind, put-again}
-use Rattle.tree.specs.Parents.{depth}
-use Rattle.tree.specs.Forest.{height, order}
-use Rattle.tree.specs.Faults.{Tree}
-use Rattle.table.specs.Ladders.{ladPos}
+use borrow.Rule.Slice.PartMut.{midOf}
+use lib.ListN.{length}
+use Rattle.base.specs.Lists.{view, put}
+use Rattle.base.proofs.Puts.{lent-view, put-length, put-before}
 use Rattle.fill.specs.Arrays.{Families, Members, Upright, Pathed, Indexes}
 use Rattle.fill.proofs.Spreading.{order-indexes}
-use Rattle.fill.proofs.Laddering.{array-length}
 use Rattle.layout.specs.Stages.{Walked, Measured, Placing}
 
 -- a part that is lent has the words that stand there
@@ -37,35 +31,6 @@ module _ (ps : List ℕ) where
         depths = put-before space a x fits n n (omega arith) ∙ w .depths;
       }
 
-  pub measured-put : (space : List ℕ) (a : ℕ) (x : List ℕ) → n * 4 ≤ a → a + length x ≤ n * 6 → Measured ps space → Measured ps (put space a x)
-  measured-put space a x h b m =
-      let fits : a + length x ≤ length space = omega (arith, m .walked .room) in
-      record {
-        walked = walked-put space a x (omega arith) b (m .walked);
-        sizes = put-before space a x fits (n * 2) n (omega arith) ∙ m .sizes;
-        aboves = put-before space a x fits (n * 3) n (omega arith) ∙ m .aboves;
-      }
-
-  pub measured-array : (space : List ℕ) (a : ℕ) (f : ℕ → ℕ) → n * 4 ≤ a → a + n ≤ n * 6 → Measured ps space → Measured ps (put space a (map f (order ps)))
-  measured-array space a f h b m = measured-put space a (map f (order ps)) h (omega (arith, array-length ps (m .walked .few) (m .walked .tree) f (map f (order ps)) refl)) m
-
-  -- a section that was laid by position, and is then laid by entry
-  module _ (few : n ≤ 1048576) (tree : Tree ps) (f : ℕ → ℕ) (table cells : List ℕ) (a b : ℕ) (is : cells ≡ map f (order ps)) (e : a + n ≡ b) (fits : b ≤ length table) where
-    abbrev lent-table : List ℕ
-    lent-table = putMid a (b - a) table cells
-
-    cells-length : length cells ≡ n
-    cells-length = array-length ps few tree f cells is
-
-    back : lent-table ≡ put table a cells
-    back = lent-back a b table cells cells refl (omega (arith, cells-length))
-
-    pub carried : view a n lent-table ≡ map f (order ps)
-    carried = ap (view a n) back ∙ put-view table a cells (omega (arith, cells-length)) n cells-length ∙ is
-
-    pub relaid : put lent-table a (below n f) ≡ put table a (below n f)
-    relaid = ap (λ t. put t a (below n f)) back ∙ put-again table a cells (omega (arith, cells-length)) (below n f) (omega (arith, each-length n 0 f, cells-length))
-
 -- what each pass asks, of the regions that it is lent
 module _ (ps space : List ℕ) (w : Walked ps space) where
   pub indexes-of : (cells : List ℕ) → length cells ≡ length ps → Indexes (midOf 0 (length ps - 0) space) cells
@@ -82,17 +47,17 @@ placing ps paths space cells p =
     record { walked = record { few = u .few; tree = u .tree; room = u .room; orders = u .orders; depths = u .depths }; places = p .places-are }
 
 module _ (ps space : List ℕ) (m : Measured ps space) where
-  pub families-of : Families ps (midOf (length ps * 2) (length ps * 3 - length ps * 2) space)
+  pub families-of : Families ps (midOf 0 (length ps - 0) space) (midOf (length ps * 2) (length ps * 3 - length ps * 2) space)
   families-of = record {
     few = m .walked .few;
     tree = m .walked .tree;
+    order-is = lent 0 (length ps) (length ps) space _ (omega arith) (m .walked .orders);
     sizes-are = lent (length ps * 2) (length ps * 3) (length ps) space _ (omega arith) (m .sizes);
   }
 
   pub members-of : Members ps (midOf 0 (length ps - 0) space) (midOf (length ps) (length ps * 2 - length ps) space) (midOf (length ps * 2) (length ps * 3 - length ps * 2) space) (midOf (length ps * 3) (length ps * 4 - length ps * 3) space)
   members-of = record {
     families = families-of;
-    order-is = lent 0 (length ps) (length ps) space _ (omega arith) (m .walked .orders);
     depths = lent (length ps) (length ps * 2) (length ps) space _ (omega arith) (m .walked .depths);
     aboves = lent (length ps * 3) (length ps * 4) (length ps) space _ (omega arith) (m .aboves);
   }

@@ -29,13 +29,3 @@ pub(crate) fn by_entry(parents: &[u32], space: &[u32], region: usize, table: &mu
     let e = a + n;
     scatter(&space[0..n], &space[region..b], &mut table[a..e]);
 }
-
-// A section that was laid with a word for each position gets one for each entry. The region keeps those by position.
-pub(crate) fn turn(parents: &[u32], table: &mut [u32], a: usize, space: &mut [u32], region: usize)
-    requires { ⌜ Walked (now parents) (now space) × (2 * length (now parents) ≤ region) × (region + length (now parents) ≤ 6 * length (now parents)) × (a + length (now parents) ≤ length (now table)) ⌝ }
-    ensures { λ _. ⌜ ((f : ℕ → ℕ) → view a (length (now (parents .entry))) (now (table .entry)) ≡ map f (order (now (parents .entry))) → (now (table .exit) ≡ put (now (table .entry)) a (below (length (now (parents .entry))) f)) × (now (space .exit) ≡ put (now (space .entry)) region (map f (order (now (parents .entry)))))) ⌝ }
-{
-    let n = parents.len();
-    carry(table, a, space, region, n);
-    by_entry(parents, space, region, table, a);
-}

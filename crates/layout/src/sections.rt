@@ -12,23 +12,19 @@ ghost use Rattle.table.specs.Table.{ladderCells, groupCells};
 ghost use Rattle.layout.specs.Stages.{Walked, Measured, Placing, Familied, Laddered, Sectioned};
 use crate::parts::by_entry;
 use crate::parts::carry;
-use crate::parts::turn;
 use fill::kinds::Counts;
 use fill::spread::copy;
 
-// KIND; region 4 has it by position meanwhile.
-fn kind_section(parents: &[u32], table: &mut [u32], space: &mut [u32]) -> Counts
+// KIND.
+fn kind_section(parents: &[u32], table: &mut [u32], space: &[u32]) -> Counts
     requires { ⌜ Measured (now parents) (now space) × (length (now table) ≡ tableWords (length (now parents))) ⌝ }
     ensures counts { λ r. ⌜ (r .groups ≡ length (groupRoots groupLimit (now (parents .entry)))) × (r .jumps ≡ length (jumpNodes groupLimit (now (parents .entry)))) ⌝ }
-    ensures kept { λ _. ⌜ Measured (now (parents .entry)) (now (space .exit)) ⌝ }
     ensures laid { λ _. ⌜ now (table .exit) ≡ put (now (table .entry)) (4 + length (now (parents .entry))) (below (length (now (parents .entry))) (kind groupLimit (now (parents .entry)))) ⌝ }
 {
     let n = parents.len();
     let a = 4 + n;
     let b = a + n;
-    let counts = fill::kinds::kinds(&space[n * 2..n * 3], &mut table[a..b]);
-    turn(parents, table, a, space, n * 4);
-    counts
+    fill::kinds::kinds(&space[0..n], &space[n * 2..n * 3], &mut table[a..b])
 }
 
 // GROUPS.
@@ -49,10 +45,9 @@ fn group_section(parents: &[u32], table: &mut [u32], space: &[u32])
 }
 
 // KIND, SIZE and GROUPS.
-pub(crate) fn family_sections(parents: &[u32], table: &mut [u32], space: &mut [u32]) -> Counts
+pub(crate) fn family_sections(parents: &[u32], table: &mut [u32], space: &[u32]) -> Counts
     requires { ⌜ Measured (now parents) (now space) × (length (now table) ≡ tableWords (length (now parents))) ⌝ }
     ensures counts { λ r. ⌜ (r .groups ≡ length (groupRoots groupLimit (now (parents .entry)))) × (r .jumps ≡ length (jumpNodes groupLimit (now (parents .entry)))) ⌝ }
-    ensures kept { λ _. ⌜ Measured (now (parents .entry)) (now (space .exit)) ⌝ }
     ensures laid { λ _. ⌜ Familied (now (parents .entry)) (now (table .exit)) ⌝ }
 {
     let n = parents.len();

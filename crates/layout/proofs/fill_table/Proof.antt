@@ -9,26 +9,26 @@ use Rattle.layout.proofs.fill_table.Tie as tie
 
 order-sections-requires : tie.Need-order-sections-requires
 order-sections-requires c κs =
-    let s = c .before .before .before .before .before .before .before .before .before .before .before .before .before .before .before .before .before .before .before .before .before .before .before .before .before .before in
-    let m = c .before .before .before .before .before .before .before .before .before .before .before .before .before .before .before .before .before .before .before .before .measure in
-    let f = c .before .before .before .before .before .before .before .before .before .before .before .before .before .family-sections in
+    let s = c .before .before .before .before .before .before .before .before .before .before .before .before .before .before .before .before .before .before .before .before .before .before .before .before in
+    let m = c .before .before .before .before .before .before .before .before .before .before .before .before .before .before .before .before .before .before .measure in
+    let f = c .before .before .before .before .before .before .before .before .before .before .before .family-sections in
     let p = c .before .before .before .before .before .before .path-sections in
     (p .ensures .1 .0, p .kept .1 .0 ∙ f .kept .1 .0 ∙ m .kept .1 .0 ∙ s .pre .1, p .ensures .1 .1 .0, p .ensures .1 .1 .1)
 
 jump-section-requires : tie.Need-jump-section-requires
 jump-section-requires c κs =
-    let s = c .before .before .before .before .before .before .before .before .before .before .before .before .before .before .before .before .before .before .before .before .before .before .before .before .before .before .before .before .before .before .before in
-    let m = c .before .before .before .before .before .before .before .before .before .before .before .before .before .before .before .before .before .before .before .before .before .before .before .before .before .measure in
-    let f = c .before .before .before .before .before .before .before .before .before .before .before .before .before .before .before .before .before .before .family-sections in
+    let s = c .before .before .before .before .before .before .before .before .before .before .before .before .before .before .before .before .before .before .before .before .before .before .before .before .before .before .before .before .before in
+    let m = c .before .before .before .before .before .before .before .before .before .before .before .before .before .before .before .before .before .before .before .before .before .before .before .measure in
+    let f = c .before .before .before .before .before .before .before .before .before .before .before .before .before .before .before .before .family-sections in
     let p = c .before .before .before .before .before .before .before .before .before .before .before .path-sections in
     let o = c .before .before .before .before .order-sections in
     (p .ensures .1 .0, o .ensures, o .kept .1 .0 ∙ p .kept .1 .0 ∙ f .kept .1 .0 ∙ m .kept .1 .0 ∙ s .pre .1, f .ensures .0 .1)
 
 header-cells-requires : tie.Need-header-cells-requires
 header-cells-requires c κs =
-    let s = c .before .before .before .before .before .before .before .before .before .before .before .before .before .before .before .before .before .before .before .before .before .before .before .before .before .before .before .before .before .before .before .before .before .before .before .before .before in
-    let m = c .before .before .before .before .before .before .before .before .before .before .before .before .before .before .before .before .before .before .before .before .before .before .before .before .before .before .before .before .before .before .before .measure in
-    let f = c .before .before .before .before .before .before .before .before .before .before .before .before .before .before .before .before .before .before .before .before .before .before .before .before .family-sections in
+    let s = c .before .before .before .before .before .before .before .before .before .before .before .before .before .before .before .before .before .before .before .before .before .before .before .before .before .before .before .before .before .before .before .before .before .before .before in
+    let m = c .before .before .before .before .before .before .before .before .before .before .before .before .before .before .before .before .before .before .before .before .before .before .before .before .before .before .before .before .before .measure in
+    let f = c .before .before .before .before .before .before .before .before .before .before .before .before .before .before .before .before .before .before .before .before .before .before .family-sections in
     let p = c .before .before .before .before .before .before .before .before .before .before .before .before .before .before .before .before .before .path-sections in
     let o = c .before .before .before .before .before .before .before .before .before .before .order-sections in
     let j = c .before .before .before .before .before .jump-section in
@@ -36,25 +36,22 @@ header-cells-requires c κs =
 
 same-length : tie.Need-same-length
 same-length c =
-    let s = c .before .before .before .before .before .before .before .before .before .before .before .before .before .before .before .before .before .before .before .before .before .before .before .before .before .before .before .before .before .before .before .before .before .before .before .before .before .before .before .before in
-    let m = c .before .before .before .before .before .before .before .before .before .before .before .before .before .before .before .before .before .before .before .before .before .before .before .before .before .before .before .before .before .before .before .before .before .before .measure in
-    let f = c .before .before .before .before .before .before .before .before .before .before .before .before .before .before .before .before .before .before .before .before .before .before .before .before .before .before .before .family-sections in
+    let m = c .before .before .before .before .before .before .before .before .before .before .before .before .before .before .before .before .before .before .before .before .before .before .before .before .before .before .before .before .before .before .before .before .measure in
+    let f = c .before .before .before .before .before .before .before .before .before .before .before .before .before .before .before .before .before .before .before .before .before .before .before .before .before .family-sections in
     let p = c .before .before .before .before .before .before .before .before .before .before .before .before .before .before .before .before .before .before .before .before .path-sections in
     c .before .before .header-cells .kept .1 .1 .1 .0 ∙ c .before .before .before .before .before .before .before .before .jump-section .kept .1 .1 .0 ∙ c .before .before .before .before .before .before .before .before .before .before .before .before .before .order-sections .kept .1 .0 ∙ p .kept .1 .0 ∙ f .kept .1 .0 ∙ m .kept .1 .0
 
 same-length-2 : tie.Need-same-length-2
 same-length-2 c =
-    let s = c .before .before .before .before .before .before .before .before .before .before .before .before .before .before .before .before .before .before .before .before .before .before .before .before .before .before .before .before .before .before .before .before .before .before .before .before .before .before .before .before in
-    let m = c .before .before .before .before .before .before .before .before .before .before .before .before .before .before .before .before .before .before .before .before .before .before .before .before .before .before .before .before .before .before .before .before .before .before .measure in
-    let f = c .before .before .before .before .before .before .before .before .before .before .before .before .before .before .before .before .before .before .before .before .before .before .before .before .before .before .before .family-sections in
+    let m = c .before .before .before .before .before .before .before .before .before .before .before .before .before .before .before .before .before .before .before .before .before .before .before .before .before .before .before .before .before .before .before .before .measure in
     let p = c .before .before .before .before .before .before .before .before .before .before .before .before .before .before .before .before .before .before .before .before .path-sections in
-    c .before .before .before .before .before .before .before .before .jump-section .kept .1 .1 .1 .0 ∙ p .kept .1 .1 .0 ∙ f .kept .1 .1 .0 ∙ m .kept .1 .1 .0
+    c .before .before .before .before .before .before .before .before .jump-section .kept .1 .1 .1 .0 ∙ p .kept .1 .1 .0 ∙ m .kept .1 .1 .0
 
 returns : tie.Need-returns
 returns c =
-    let s = c .before .before .before .before .before .before .before .before .before .before .before .before .before .before .before .before .before .before .before .before .before .before .before .before .before .before .before .before .before .before .before .before .before .before .before .before .before .before .before .before in
-    let m = c .before .before .before .before .before .before .before .before .before .before .before .before .before .before .before .before .before .before .before .before .before .before .before .before .before .before .before .before .before .before .before .before .before .before .measure in
-    let f = c .before .before .before .before .before .before .before .before .before .before .before .before .before .before .before .before .before .before .before .before .before .before .before .before .before .before .before .family-sections in
+    let s = c .before .before .before .before .before .before .before .before .before .before .before .before .before .before .before .before .before .before .before .before .before .before .before .before .before .before .before .before .before .before .before .before .before .before .before .before .before .before in
+    let m = c .before .before .before .before .before .before .before .before .before .before .before .before .before .before .before .before .before .before .before .before .before .before .before .before .before .before .before .before .before .before .before .before .measure in
+    let f = c .before .before .before .before .before .before .before .before .before .before .before .before .before .before .before .before .before .before .before .before .before .before .before .before .before .family-sections in
     let p = c .before .before .before .before .before .before .before .before .before .before .before .before .before .before .before .before .before .before .before .before .path-sections in
     let o = c .before .before .before .before .before .before .before .before .before .before .before .before .before .order-sections in
     let j = c .before .before .before .before .before .before .before .before .jump-section in
