@@ -2,12 +2,11 @@
 -- Assumes nothing.
 use mathlib.Core.Path.{_≡_, refl, sym, ap, _∙_}
 use mathlib.Core.List.{List, [], _∷_, _++_, append-assoc, append-nil}
-use Prim.Native.Nat.{ℕ, zero, suc, _+_, _-_, _≤_, _<_}
-use native.Mathlib.Nat.{zero-lt-suc, suc-le-suc-iff}
+use Prim.Native.Nat.{ℕ, suc, _+_, _-_, _≤_, _<_}
+use native.Mathlib.Nat.{zero-lt-suc}
 use native.Mathlib.Omega.{arith}
-use native.Mathlib.Numerals.{add-one}
 use lib.ListN.{length, getD, take, set, replicate, length-append, List·getD-append}
-use lib.Seq.{set-append-seam, take-suc, take-at}
+use lib.Seq.{set-append-seam, take-at}
 use borrow.Author.Tests.{lt-ltb}
 use Rattle.base.specs.Lists.{padded}
 use Rattle.base.specs.Numbers.{Outcome}
@@ -16,16 +15,6 @@ use Rattle.answers.specs.Reading.{Reading, done, read, andThen, wordAt, 
 use Rattle.answers.specs.Answers.{pushed, pushedAll, listed, answerTo, answerFrom, SameAt}
 use Rattle.answers.specs.declared.Cells.{Cells}
 use Rattle.answers.proofs.Locality.{local-run, local-trace, within-trace}
-
--- cells pushed in two parts
-pub push-all-append : (cs : Cells) (xs ys : List ℕ) → pushedAll cs (xs ++ ys) ≡ pushedAll (pushedAll cs xs) ys
-unfolding pushedAll
-push-all-append cs [] ys = refl
-push-all-append cs (x ∷ xs) ys = push-all-append (pushed cs x) xs ys
-
-pub push-next : (cs : Cells) (at : List ℕ) (i : ℕ) → i < length at → pushedAll cs (take (i + 1) at) ≡ pushed (pushedAll cs (take i at)) (getD at i 0)
-unfolding pushedAll
-push-next cs at i h = rw (add-one, take-suc at i 0 h) (push-all-append cs (take i at) (getD at i 0 ∷ []))
 
 -- what is left of a program adds its cells, and ends with its outcome
 pub from-is : (t : List ℕ) (cs : Cells) (p : Reading) → answerFrom t cs p ≡ record { number = run t p .number; word = run t p .word; cells = pushedAll cs (trace t p) }

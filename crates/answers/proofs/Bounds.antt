@@ -1,7 +1,7 @@
 -- How many cells each question reads at most, on a table of any contents. Assumes nothing.
 use mathlib.Core.Bool.{Bool, true, false, cond}
 use mathlib.Core.Option.{Option, none, some, Option·elim}
-use Prim.Native.Nat.{ℕ, zero, suc, _+_}
+use Prim.Native.Nat.{ℕ, zero, suc}
 use lib.Dec.{leb, ltb, eqb}
 use Rattle.base.specs.Numbers.{Outcome}
 use Rattle.answers.specs.Reading.{Reading, done, read, ifLe, ifLt, ifEq, ifNone, andThen, Within}

@@ -3,17 +3,16 @@ use mathlib.Core.Path.{_≡_, refl, sym, ap, _∙_}
 use mathlib.Core.List.{List, [], _∷_, _++_, map, append-assoc}
 use mathlib.Core.Bool.{Bool, true}
 use mathlib.Core.Option.{some, Option·elim}
-use Prim.Native.Nat.{ℕ, suc, _+_, _*_, _-_, _≤_, _<_}
+use Prim.Native.Nat.{ℕ, suc, _+_, _-_, _≤_, _<_}
 use native.Mathlib.Omega.{arith}
 use native.Mathlib.Decide.{ℕ-discrete, decLe}
-use lib.ListN.{length, getD, set, take, drop, replicate, length-set, length-replicate, List·getD-append}
-use lib.Seq.{getD-set-same, getD-set-other, getD-append-add, split-at, take-at}
+use lib.ListN.{length, getD, take, drop}
+use lib.Seq.{split-at}
 use lib.Dec.{leb}
 use borrow.Author.Tests.{le-leb, lt-leb}
-use borrow.Rule.Slice.PartMut.{midOf, postOf, putMid, mid-len, same-len-mid}
 use Rattle.base.specs.Limits.{mostEntries}
 use Rattle.base.specs.Lists.{keep, place, view}
-use Rattle.base.proofs.Views.{view-length, view-at, filled-at}
+use Rattle.base.proofs.Views.{view-length, view-at}
 use Rattle.base.proofs.Counts.{times}
 use Rattle.base.proofs.Places.{times-same, place-stands}
 use Rattle.base.proofs.Keeping.{keep-append, keep-none}

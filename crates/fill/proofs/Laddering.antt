@@ -1,28 +1,21 @@
 -- Arrays by position, the entry above a position, and whether a long path starts there. Assumes nothing.
 use mathlib.Core.Path.{_≡_, refl, sym, ap, _∙_}
-use mathlib.Core.List.{List, [], _∷_, map}
+use mathlib.Core.List.{List, map}
 use mathlib.Core.Bool.{Bool, true, false}
 use mathlib.Core.Option.{Option, none, some, Option·elim, Option·some-injective}
-use Prim.Native.Nat.{ℕ, zero, suc, _+_, _≤_, _<_, min}
+use Prim.Native.Nat.{ℕ, zero, suc, _≤_, _<_}
 use native.Mathlib.Omega.{arith}
-use native.Mathlib.Numerals.{add-one}
-use lib.ListN.{length, getD, set, take, length-append, length-map, length-take}
+use lib.ListN.{length, getD, length-map}
 use Rattle.base.specs.Limits.{mostEntries}
-use Rattle.base.proofs.Keeping.{keep-most}
-use Rattle.tree.specs.Parents.{parent, depth}
-use Rattle.tree.specs.Forest.{height, order, position, longChild, pathTop}
+use Rattle.tree.specs.Parents.{parent}
+use Rattle.tree.specs.Forest.{order, position, longChild, pathTop}
 use Rattle.tree.specs.Faults.{Tree}
 use Rattle.tree.proofs.Climbing.{parent-some}
 use Rattle.tree.proofs.Positions.{order-length, at-position, position-of, order-in}
 use Rattle.tree.proofs.Intervals.{parent-before, next-parent}
-use Rattle.table.specs.Ladders.{ladPos}
 use Rattle.climbs.proofs.Paths.{path-top-no, long-child, long-no-top}
-use Rattle.climbs.proofs.OwnPaths.{topsWithin}
-use Rattle.climbs.proofs.Ladders.{rise, rungsWithin, ladpos-next, ladpos-in}
-use Rattle.climbs.proofs.Room.{ladders-fit}
-use Rattle.climbs.proofs.Running.{tops-more, tops-same, tops-none, tops-all, rungs-more, rungs-same, rungs-none, rungs-all, rungs-fit, ladpos-met}
 use Rattle.fill.specs.Arrays.{abovePosition, longPosition, Paths}
-use Rattle.fill.proofs.Spreading.{array-at, Ran, ran-none, ran-more, ran-map}
+use Rattle.fill.proofs.Spreading.{array-at}
 
 -- the entry above v, which stands earlier
 pub record Over (ps : List ℕ) (v : ℕ) : Type 0 where
@@ -89,9 +82,6 @@ module _ (ps : List ℕ) (few : length ps ≤ mostEntries) (tree : Tree ps) wher
 module _ (ps long above : List ℕ) (p : Paths ps long above) where
   pub above-length : length above ≡ length ps
   above-length = array-length ps (p .few) (p .tree) (abovePosition ps) above (p .aboves)
-
-  pub long-length : length long ≡ length ps
-  long-length = array-length ps (p .few) (p .tree) (longPosition ps) long (p .longs)
 
   pub top-start : 0 < length above → true ≡ pathTop ps (getD (order ps) 0 0)
   top-start h = sym (top-first ps (p .few) (p .tree) (omega (arith, above-length)))

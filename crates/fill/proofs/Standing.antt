@@ -9,7 +9,6 @@ use borrow.Author.Count.{below-more}
 use borrow.Rule.Slice.PartMut.{midOf, putMid}
 use lib.ListN.{length, getD, set, take, replicate, length-set, length-append, length-map, length-take}
 use lib.Seq.{ext-getD, getD-set-same, getD-set-other}
-use Rattle.base.specs.Limits.{mostEntries}
 use Rattle.base.specs.Lists.{view}
 use Rattle.base.proofs.Keeping.{keep-most}
 use Rattle.base.proofs.Puts.{lent-view}
@@ -18,8 +17,7 @@ use Rattle.tree.specs.Parents.{topMark, depth}
 use Rattle.tree.specs.Forest.{height, order, position, pathTop}
 use Rattle.tree.specs.Faults.{Tree}
 use Rattle.tree.proofs.Positions.{order-length, at-position, position-of, order-in}
-use Rattle.table.specs.Ladders.{pathTops, ladPos}
-use Rattle.table.specs.Table.{ladderCells}
+use Rattle.table.specs.Ladders.{ladPos}
 use Rattle.climbs.proofs.Paths.{path-top-no}
 use Rattle.climbs.proofs.OwnPaths.{topsWithin}
 use Rattle.climbs.proofs.Ladders.{rise, rungsWithin, ladpos-next, ladpos-in}

@@ -1,6 +1,6 @@
 -- Arrays by preorder position, and the sections that a pass over them leaves. Assumes nothing.
 use mathlib.Core.Path.{_≡_}
-use mathlib.Core.List.{List, map, flatten}
+use mathlib.Core.List.{List, map}
 use mathlib.Core.Option.{some, Option·elim}
 use Prim.Native.Nat.{ℕ, _+_, _*_, _-_, _≤_, _<_}
 use lib.ListN.{length, getD, take}
@@ -9,7 +9,7 @@ use Rattle.base.specs.Lists.{below, view}
 use Rattle.tree.specs.Parents.{topMark, parent, up, depth}
 use Rattle.tree.specs.Forest.{size, height, order, position, longChild}
 use Rattle.tree.specs.Faults.{Tree}
-use Rattle.table.specs.Ladders.{pathTops, ladders, ladPos}
+use Rattle.table.specs.Ladders.{pathTops, ladPos}
 use Rattle.table.specs.Groups.{groupRoots, jumpNodes, kind}
 use Rattle.table.specs.Table.{ladderCells, groupCells}
 

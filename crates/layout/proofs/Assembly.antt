@@ -1,7 +1,7 @@
 -- The sections of a table, put together. Assumes nothing.
 use mathlib.Core.Path.{_≡_, refl, sym, ap, _∙_}
 use mathlib.Core.Logic.{_⊎_, inl, inr, ⊎-elim}
-use mathlib.Core.List.{List, _++_, map}
+use mathlib.Core.List.{List, _++_}
 use Prim.Native.Nat.{ℕ, _+_, _*_, _≤_}
 use native.Mathlib.Omega.{arith}
 use lib.ListN.{length}
@@ -19,8 +19,6 @@ use Rattle.table.specs.Table.{header, entrySections, laidSections, ladderCells,
 use Rattle.climbs.proofs.Room.{ladders-fit}
 use Rattle.climbs.proofs.Groups.{groups-few}
 use Rattle.climbs.proofs.Words.{groups-length}
-use Rattle.fill.specs.Arrays.{abovePosition}
-use Rattle.fill.proofs.Laddering.{array-length}
 use Rattle.layout.specs.Stages.{Familied, Laddered, Sectioned}
 
 -- c words from b on lie apart from k words from a on

@@ -7,7 +7,7 @@ ghost use Rattle.base.specs.Lists.{below, put};
 ghost use Rattle.base.specs.Limits.{tableWords, groupLimit};
 ghost use Rattle.tree.specs.Forest.{position};
 ghost use Rattle.table.specs.Groups.{groupRoots, jumpNodes, kind};
-ghost use Rattle.table.specs.Ladders.{pathTops, ladPos};
+ghost use Rattle.table.specs.Ladders.{pathTops};
 ghost use Rattle.table.specs.Table.{ladderCells, groupCells};
 ghost use Rattle.layout.specs.Stages.{Walked, Measured, Placing, Familied, Laddered, Sectioned};
 use crate::parts::by_entry;

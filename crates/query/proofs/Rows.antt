@@ -47,9 +47,6 @@ module _ (s l : ℕ) (row : List ℕ) (is : row ≡ rowOf groupLimit s l) where
   pub cell-at : (k c : ℕ) → c ≡ getD row k 255 → c ≡ mark (reached groupLimit s l k)
   cell-at k c e = e ∙ ap (λ r. getD r k 255) is ∙ row-at groupLimit (omega arith) s l k
 
-  pub cell-none : (k c : ℕ) → c ≡ getD row k 255 → c ≡ 255 → reached groupLimit s l k ≡ none
-  cell-none k c e z = mark-none s l k (sym (cell-at k c e) ∙ z)
-
   pub cell-some : (k c : ℕ) → c ≡ getD row k 255 → (c ≡ 255 → ⊥) → reached groupLimit s l k ≡ none → ⊥
   cell-some k c e z q = z (cell-at k c e ∙ ap mark q)
 

@@ -1,6 +1,5 @@
 // Step 3: within a group, and out of it.
 ghost use mathlib.Core.Path.{_≡_};
-ghost use mathlib.Core.Bool.{Bool};
 ghost use Prim.Native.Nat.{ℕ, _<_};
 ghost use lib.ListN.{getD};
 ghost use lib.Dec.{eqb};

@@ -1,6 +1,6 @@
 // How two entries stand to each other, by the intervals of the preorder; ancestry.
 ghost use mathlib.Core.Path.{_≡_};
-ghost use mathlib.Core.Bool.{true, _&&_};
+ghost use mathlib.Core.Bool.{_&&_};
 ghost use Prim.Native.Nat.{ℕ, _+_, _<_};
 ghost use mathlib.Core.List.{[]};
 ghost use lib.ListN.{length};

@@ -2,7 +2,6 @@
 use mathlib.Core.Path.{_∙_}
 use native.Mathlib.Omega.{arith}
 use borrow.Author.Needs.{needs}
-use lib.ListN.{length}
 use Rattle.layout.proofs.Recording.{finished}
 use Rattle.layout.proofs.fill_table.Statement.{statement}
 use Rattle.layout.proofs.fill_table.Tie as tie

@@ -1,7 +1,5 @@
 -- `group::in_group` meets its contract. Assumes nothing.
-use mathlib.Core.Path.{_≡_, sym}
-use Prim.Native.Nat.{ℕ, _-_}
-use native.Mathlib.Omega.{arith}
+use Prim.Native.Nat.{_-_}
 use lib.Dec.{lit<}
 use borrow.Author.Needs.{needs}
 use Rattle.base.specs.Limits.{groupLimit}

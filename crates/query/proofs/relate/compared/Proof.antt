@@ -1,6 +1,5 @@
 -- `relate::compared` meets its contract. Assumes nothing.
 use mathlib.Core.Path.{_≡_, refl}
-use mathlib.Core.Bool.{true}
 use denote.Ref.{now}
 use lib.Dec.{lit<}
 use borrow.Author.Needs.{needs}
