@@ -38,7 +38,7 @@ typedef struct {
 } tantsheko_reply;
 
 /* What a question answers: its number, the result or what the refusal names, the cells read in the order read (the
- * places past the count are 0), and how many they are. */
+ * places past the count are 0), and how many they are. A question writes every word of it. */
 typedef struct {
     uint32_t number;
     uint32_t word;
