@@ -54,8 +54,7 @@ fn top_place(n: usize, space: &[u32], top: Position, words: u32, cells: &mut [u3
     requires { ⌜ ((ps : List ℕ) × Upright ps (now space) × (n ≡ length ps) × (words + min (height ps (entryAt ps (top .0))) (depth ps (entryAt ps (top .0))) < length (now cells))) × (top .0 < n) × (length (now cells) ≤ 2097152) ⌝ }
     ensures { λ r. ⌜ ((ps : List ℕ) → Upright ps (now (space .entry)) → n ≡ length ps → (r ≡ words + min (height ps (entryAt ps (top .0))) (depth ps (entryAt ps (top .0)))) × Risen ps (entryAt ps (top .0)) r (min (height ps (entryAt ps (top .0))) (depth ps (entryAt ps (top .0)))) (now (cells .entry)) (now (cells .exit))) ⌝ }
 {
-    let i = top.0 as usize;
-    let count = lesser(space[n * 4 + i], space[n + i]);
+    let count = lesser(space[n * 4 + top.0 as usize], space[n + top.0 as usize]);
     let place = words + count;
     rise(&space[0..n], &space[n * 3..n * 4], top, place, count, cells);
     place
@@ -75,9 +74,8 @@ fn settle(n: usize, space: &mut [u32], at: Position, place: u32, cells: &mut [u3
     requires { ⌜ (length (now space) ≡ 6 * n) × (n ≤ 1048576) × (at .0 < n) × (place < length (now cells)) ⌝ }
     ensures { λ _. ⌜ (now (space .exit) ≡ set (now (space .entry)) (n * 2 + at .0) place) × (now (cells .exit) ≡ set (now (cells .entry)) place (getD (now (space .entry)) (at .0) 0)) ⌝ }
 {
-    let i = at.0 as usize;
-    cells[place as usize] = space[i];
-    space[n * 2 + i] = place;
+    cells[place as usize] = space[at.0 as usize];
+    space[n * 2 + at.0 as usize] = place;
 }
 
 // LADPOS by position into region 2 of the working space, and LADDERS: each path's top behind all ladders so far and its own nearest ancestors, each

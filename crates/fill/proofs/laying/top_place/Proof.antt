@@ -10,13 +10,13 @@ use Rattle.fill.proofs.laying.top_place.Tie as tie
 
 add-place : tie.Need-add-place
 add-place c =
-    let s = c .before .before .before .before .before .before in
+    let s = c .before .before .before .before .before .before .before in
     let (ps, u, e, b) = s .pre .0 in
     omega (arith, c .lesser .ensures ∙ rise-word ps (s .args .space .now) (s .args .n) u e (s .args .top .0) (s .pre .1), s .pre .2)
 
 rise-requires : tie.Need-rise-requires
 rise-requires c κs =
-    let s = c .before .before .before .before .before .before .before .before .before in
+    let s = c .before .before .before .before .before .before .before .before .before .before in
     let (ps, u, e, b) = s .pre .0 in
     let q = c .before .before .before .lesser .ensures ∙ rise-word ps (s .args .space .now) (s .args .n) u e (s .args .top .0) (s .pre .1) in (
       (ps, climbs-of ps (s .args .space .now) (s .args .n) u e, omega (arith, q)),
@@ -27,7 +27,7 @@ rise-requires c κs =
 
 returns : tie.Need-returns
 returns c ps u e =
-    let s = c .before .before .before .before .before .before .before .before .before .before .before .before in
+    let s = c .before .before .before .before .before .before .before .before .before .before .before .before .before in
     let lesser = c .before .before .before .before .before .before in
     let q = lesser .lesser .ensures ∙ rise-word ps (s .args .space .now) (s .args .n) u e (s .args .top .0) (s .pre .1) in
     let r = c .before .before .rise .ensures ps (climbs-of ps (s .args .space .now) (s .args .n) u e) (omega (arith, q)) in
@@ -37,6 +37,7 @@ pub top-place-spec : {M : Type 1} → statement M
 top-place-spec =
     tie.close
     (tie.spec
+    (λ c. search needs)
     (λ c. search needs)
     (λ c. search needs)
     (λ c. search needs)
