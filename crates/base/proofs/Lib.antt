@@ -8,3 +8,4 @@ pub mod Joined
 pub mod Rows
 pub mod Views
 pub mod Puts
+pub mod Filled

@@ -1,4 +1,5 @@
 -- "Answers that turn a call away": each number with what it names. Assumes nothing.
+use mathlib.Core.Path.{_≡_}
 use Prim.Native.Nat.{ℕ}
 
 -- an answer's number and its result word: for a refusal, what the refusal names
@@ -49,3 +50,7 @@ broken = record { number = 9; word = 0 }
 -- 10 not above: branch, where u is not strictly above v; u
 abbrev pub notAbove : ℕ → Outcome
 notAbove u = record { number = 10; word = u }
+
+-- a number and a word are an outcome's
+abbrev pub Says : Outcome → ℕ → ℕ → Type 0
+Says o number word = (number ≡ o .number) × (word ≡ o .word)

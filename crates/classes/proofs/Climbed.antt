@@ -9,7 +9,7 @@ use lib.ListN.{length}
 use Rattle.tree.specs.Questions.{classOf}
 use Rattle.table.specs.Preparing.{refusal, preparing}
 use Rattle.table.proofs.Answering.{refusal-none}
-use Rattle.prepare.specs.Verdict.{Says}
+use Rattle.base.specs.Numbers.{Says}
 use Rattle.classes.specs.Class.{classFrom}
 
 module _ (ps : List ℕ) (t s v d number word : ℕ) (says : Says (preparing ps t s) number word) where

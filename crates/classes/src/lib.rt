@@ -2,10 +2,10 @@
 ghost use mathlib.Core.Path.{_≡_};
 ghost use lib.ListN.{length};
 ghost use Rattle.table.specs.Preparing.{tableAfter, spaceAfter};
-ghost use Rattle.prepare.specs.Verdict.{Says};
+ghost use Rattle.base.specs.Numbers.{Says};
 ghost use Rattle.classes.specs.Class.{classFrom};
 use base::Node;
-use prepare::Reply;
+use base::Reply;
 use prepare::prepare;
 use query::level;
 

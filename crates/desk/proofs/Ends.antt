@@ -12,7 +12,7 @@ use Rattle.tree.specs.Faults.{listFault}
 use Rattle.table.specs.Preparing.{countFault, tableFault, spaceFault, callFault, refusal, preparing, Prepared}
 use Rattle.table.proofs.Accepting.{accepted-iff}
 use Rattle.table.proofs.Answering.{refusal-none}
-use Rattle.prepare.specs.Verdict.{Says}
+use Rattle.base.specs.Numbers.{Says}
 use Rattle.lines.specs.Counter.{badList, headerRow}
 use Rattle.desk.specs.Turns.{Holds, Judged, fault}
 

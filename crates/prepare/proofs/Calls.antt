@@ -2,24 +2,23 @@
 use mathlib.Core.Path.{_≡_, refl, sym, ap, _∙_}
 use mathlib.Core.List.{List, _++_}
 use mathlib.Core.Option.{Option, none, some, Option·elim, orElse}
-use Prim.Native.Nat.{ℕ, _*_, _-_, _≤_, _<_}
+use Prim.Native.Nat.{ℕ, _+_, _*_, _-_, _≤_, _<_}
 use native.Mathlib.Omega.{arith}
-use borrow.Rule.Slice.PartMut.{midOf, putMid, postOf, post-is, put-same}
-use lib.ListN.{length, drop, replicate}
 use borrow.Author.Tests.{lt-ltb, le-ltb}
-use Rattle.base.specs.Numbers.{Outcome, accepted, count, shortTable, shortSpace}
+use borrow.Rule.Slice.PartMut.{midOf, postOf, mid-len, put-same}
+use lib.ListN.{length, drop, replicate}
+use Rattle.base.specs.Lists.{view}
+use Rattle.base.specs.Numbers.{Outcome, accepted, count, shortTable, Says}
 use Rattle.base.specs.Limits.{mostEntries, tableWords, spaceWords}
-use Rattle.tree.specs.Faults.{listFault}
-use Rattle.tree.proofs.Levels.{order-levels}
-use Rattle.tree.proofs.Theorems.{passes-iff-tree}
+use Rattle.base.proofs.Views.{view-front}
+use Rattle.tree.specs.Faults.{Tree, listFault}
 use Rattle.table.specs.Table.{tableOf}
-use Rattle.table.specs.Preparing.{countFault, tableFault, spaceFault, callFault, refusal, preparing, tableAfter, spaceAfter}
-use Rattle.prepare.specs.Regions.{Ordered}
-use Rattle.table.proofs.Answering.{list-zero}
-use Rattle.layout.specs.Stages.{Walked}
-use Rattle.prepare.specs.Verdict.{verdict, Says}
+use Rattle.table.specs.Preparing.{countFault, tableFault, spaceFault, lendFault, callFault, refusal, preparing, tableAfter, spaceAfter, judging, judgedSpace}
+use Rattle.table.proofs.Answering.{judging-none}
+use Rattle.judge.specs.Regions.{Ordered}
+use Rattle.prepare.specs.Stages.{Walked}
 
--- 1 to 3
+-- 1 and 2; past them, what judging is lent decides
 module _ (n t s : ℕ) where
   pub call-count : countFault n ≡ some count → callFault n t s ≡ some count
   unfolding callFault orElse
@@ -30,59 +29,47 @@ module _ (n t s : ℕ) where
     unfolding callFault tableFault orElse
     call-table b = rw (e, lt-ltb t (tableWords n) b)
 
-    module _ (b : tableWords n ≤ t) where
-      pub call-space : s < spaceWords n → callFault n t s ≡ some shortSpace
-      unfolding callFault tableFault spaceFault orElse
-      call-space d = rw (e, le-ltb t (tableWords n) b, lt-ltb s (spaceWords n) d)
+    pub call-lent : tableWords n ≤ t → callFault n t s ≡ lendFault n s
+    unfolding callFault tableFault lendFault orElse
+    call-lent b = rw (e, le-ltb t (tableWords n) b)
 
-      pub call-fine : spaceWords n ≤ s → callFault n t s ≡ none
-      unfolding callFault tableFault spaceFault orElse
-      call-fine d = rw (e, le-ltb t (tableWords n) b, le-ltb s (spaceWords n) d)
-
--- the answer, the table and the space: turned away before the list is read, and else by what the list alone says
+-- the answer, the table and the space: turned away before the list is judged
 module _ (ps table space : List ℕ) where
   pub turned-away : (o : Outcome) → callFault (length ps) (length table) (length space) ≡ some o
       → (preparing ps (length table) (length space) ≡ o) × (tableAfter ps table space ≡ table) × (spaceAfter ps table space ≡ space)
   unfolding preparing refusal tableAfter spaceAfter orElse Option·elim
   turned-away o e = (rw e, rw e, rw e)
 
-  pub let-through : callFault (length ps) (length table) (length space) ≡ none
-      → (preparing ps (length table) (length space) ≡ Option·elim (listFault ps) (accepted (tableWords (length ps))) (λ o. o))
-      × (tableAfter ps table space ≡ Option·elim (listFault ps) (tableOf ps ++ drop (tableWords (length ps)) table) (λ o. table))
-      × (spaceAfter ps table space ≡ replicate (6 * length ps) 0 ++ drop (6 * length ps) space)
-  unfolding preparing refusal tableAfter spaceAfter orElse Option·elim
-  let-through e = (rw e, rw e, rw e)
+  -- and else by what judging says
+  module _ (lent : callFault (length ps) (length table) (length space) ≡ lendFault (length ps) (length space)) (number word : ℕ) (says : Says (judging ps (length space)) number word) where
+    pub judged-away : (number ≡ 0 → ⊥) → Says (preparing ps (length table) (length space)) number word × (tableAfter ps table space ≡ table) × (spaceAfter ps table space ≡ judgedSpace ps space)
+    unfolding preparing refusal tableAfter spaceAfter judging judgedSpace Option·elim
+    judged-away not = rw lent (go (orElse (lendFault (length ps) (length space)) (listFault ps)) says)
+      where
+        t : List ℕ
+        t = tableOf ps ++ drop (tableWords (length ps)) table
 
--- a list that passes is walked
-pub walked-of : (ps space : List ℕ) → length ps ≤ mostEntries → length space ≡ spaceWords (length ps) → listFault ps ≡ none → Ordered ps space → Walked ps space
-walked-of ps space few room e o = record {
-  few = few;
-  tree = passes-iff-tree ps (omega arith) .0 e;
-  room = room;
-  orders = o .orders;
-  depths = o .depths ∙ sym (order-levels ps (omega arith));
-}
+        go : (f : Option Outcome) → Says (Option·elim f (accepted (length ps)) (λ o. o)) number word
+            → Says (Option·elim f (accepted (tableWords (length ps))) (λ o. o)) number word × (Option·elim f t (λ o. table) ≡ table) × (judgedSpace ps space ≡ judgedSpace ps space)
+        go none s = absurd (not (s .0))
+        go (some o) s = (s, refl, refl)
 
--- what the list alone says, with W in place of n
-module _ (ps : List ℕ) (number word : ℕ) (says : Says (verdict ps) number word) where
-  pub passed : number ≡ 0 → listFault ps ≡ none
-  unfolding verdict
-  passed e = list-zero ps (length ps) (sym (says .0) ∙ e)
+    pub let-through : number ≡ 0
+        → (preparing ps (length table) (length space) ≡ accepted (tableWords (length ps)))
+        × (tableAfter ps table space ≡ tableOf ps ++ drop (tableWords (length ps)) table)
+        × (spaceAfter ps table space ≡ replicate (spaceWords (length ps)) 0 ++ drop (spaceWords (length ps)) space)
+    unfolding preparing refusal tableAfter spaceAfter orElse Option·elim
+    let-through z = let (a, b) = judging-none ps 0 (length space) (sym (says .0) ∙ z) in (rw (lent, a, b), rw (lent, a, b), rw (lent, a))
 
-  pub failed : (number ≡ 0 → ⊥) → (w : ℕ) (x t : List ℕ) → Says (Option·elim (listFault ps) (accepted w) (λ o. o)) number word × (t ≡ Option·elim (listFault ps) x (λ o. t))
-  unfolding verdict Option·elim
-  failed z w x t = go (listFault ps) says
-    where
-      go : (f : Option Outcome) → Says (Option·elim f (accepted (length ps)) (λ o. o)) number word → Says (Option·elim f (accepted w) (λ o. o)) number word × (t ≡ Option·elim f x (λ o. t))
-      go none s = absurd (z (s .0))
-      go (some o) s = (s, refl)
-
--- the table once its part is back
-pub written : (ps t new : List ℕ) (w : ℕ) → w ≡ tableWords (length ps) → w ≤ length t → new ≡ Option·elim (listFault ps) (tableOf ps) (λ o. midOf 0 (w - 0) t)
-    → putMid 0 (w - 0) t new ≡ Option·elim (listFault ps) (tableOf ps ++ drop (tableWords (length ps)) t) (λ o. t)
-unfolding Option·elim
-written ps t new w e h f = go (listFault ps) f
-  where
-    go : (o : Option Outcome) → new ≡ Option·elim o (tableOf ps) (λ o. midOf 0 (w - 0) t) → putMid 0 (w - 0) t new ≡ Option·elim o (tableOf ps ++ drop (tableWords (length ps)) t) (λ o. t)
-    go none q = ap (λ l. l ++ postOf 0 (w - 0) t) q ∙ ap (λ r. tableOf ps ++ r) (post-is 0 w t (omega arith) ∙ ap (λ k. drop k t) e)
-    go (some o) q = ap (putMid 0 (w - 0) t) q ∙ put-same 0 (w - 0) t
+-- the part of the space that a list's preorder and depths stand in
+pub walked-of : (ps space : List ℕ) (m : ℕ) → length ps ≤ mostEntries → Tree ps → m ≡ spaceWords (length ps) → m ≤ length space → Ordered ps space → Walked ps (midOf 0 (m - 0) space)
+walked-of ps space m few tree e room o =
+    let long = mid-len 0 m space room in
+    let front : (a : ℕ) → a + length ps ≤ m → view a (length ps) (midOf 0 (m - 0) space) ≡ view a (length ps) space = λ a h. sym (view-front a (length ps) (midOf 0 (m - 0) space) (postOf 0 (m - 0) space) (omega arith)) ∙ ap (view a (length ps)) (put-same 0 (m - 0) space) in
+    record {
+      few = few;
+      tree = tree;
+      room = long ∙ omega arith;
+      orders = front 0 (omega arith) ∙ o .orders;
+      depths = front (length ps) (omega arith) ∙ o .depths;
+    }

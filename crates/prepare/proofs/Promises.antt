@@ -26,7 +26,7 @@ use Rattle.climbs.proofs.Room.{ladders-fit}
 use Rattle.climbs.proofs.Groups.{groups-few}
 use Rattle.climbs.proofs.Jumps.{jumps-few}
 use Rattle.climbs.proofs.Words.{groups-length, jumps-length}
-use Rattle.prepare.specs.Verdict.{Says}
+use Rattle.base.specs.Numbers.{Says}
 
 -- the table of a list that forms one tree has W words
 pub table-length : (ps : List ℕ) → length ps ≤ mostEntries → Tree ps → length (tableOf ps) ≡ tableWords (length ps)

@@ -1,3 +1,3 @@
--- The regions of the working space, what they hold, and what is answered.
-pub mod Regions
-pub mod Verdict
+-- What the passes read and leave, and what stands in the working space and in the table while the table is filled.
+pub mod Arrays
+pub mod Stages

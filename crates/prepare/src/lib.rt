@@ -1,14 +1,16 @@
-// Preparing the table of a parent list, and judging the list alone, on a lent working space of 6n words.
-mod accepting;
-mod faults;
-mod judging;
-mod link;
-mod lost;
-mod stray;
-mod walk;
-mod words;
+// Preparing the table of a parent list, on a lent working space of 6n words.
+mod filling;
+mod grouping;
+mod jumps;
+mod kinds;
+mod laying;
+mod measure;
+mod parts;
+mod records;
+mod regions;
+mod sections;
+mod spread;
 
-pub use judging::judge;
 ghost use mathlib.Core.Path.{_≡_};
 ghost use mathlib.Core.Logic.{_↔_};
 ghost use mathlib.Core.List.{[], _∷_};
@@ -17,15 +19,13 @@ ghost use Prim.Native.Nat.{_≤_};
 ghost use lib.ListN.{length};
 ghost use Rattle.base.specs.Lists.{has};
 ghost use Rattle.base.specs.Limits.{mostEntries, tableWords, spaceWords};
+ghost use Rattle.base.specs.Numbers.{Says};
 ghost use Rattle.tree.specs.Faults.{Tree};
 ghost use Rattle.table.specs.Preparing.{preparing, tableAfter, spaceAfter, Prepared};
-ghost use Rattle.prepare.specs.Verdict.{Says};
-
-// A number with what it names.
-pub struct Reply {
-    pub number: u32,
-    pub word: u32,
-}
+use base::Reply;
+use base::clear;
+use judge::countable;
+use judge::preorder;
 
 // The table of a parent list (0 names W), or why there is none. A refusal leaves the table unchanged; the space is left zero where it was used, and else
 // unchanged.
@@ -38,18 +38,22 @@ pub fn prepare(parents: &[u32], table: &mut [u32], space: &mut [u32]) -> Reply
     ensures prepared { λ r. ⌜ (r .number ≡ 0 → Prepared (now (parents .entry)) (now (table .exit))) ⌝ }
 {
     let n = parents.len();
-    if !judging::countable(n) {
+    if !countable(n) {
         return Reply { number: 1, word: 0 };
     }
     let w = 4 + n * 11 + n / 6 * 21;
     if table.len() < w {
         return Reply { number: 2, word: 0 };
     }
-    let m = n * 6;
-    if space.len() < m {
-        return Reply { number: 3, word: 0 };
+    let found = preorder(parents, space);
+    if found.number != 0 {
+        return found;
     }
-    let reply = accepting::accept(parents, &mut table[0..w], &mut space[0..m]);
-    words::clear(space, m);
-    reply
+    let m = n * 6;
+    filling::fill_table(parents, &mut table[0..w], &mut space[0..m]);
+    clear(space, m);
+    Reply {
+        number: 0,
+        word: w as u32,
+    }
 }

@@ -9,7 +9,7 @@ use native.Mathlib.Omega.{arith}
 use native.Mathlib.Decide.{decLe}
 use lib.ListN.{length}
 use lib.Dec.{eqb, ltb}
-use borrow.Author.Tests.{lt-ltb}
+use borrow.Author.Tests.{lt-ltb, le-ltb}
 use Rattle.base.specs.Lists.{some?, has}
 use Rattle.base.specs.Numbers.{Outcome, accepted, count, shortTable, shortSpace, stray, loop}
 use Rattle.base.specs.Limits.{mostEntries, tableWords, spaceWords}
@@ -104,9 +104,30 @@ module _ (ps : List ℕ) (t s : ℕ) where
   unfolding preparing some?
   refusal-none e = among-accepts refusals (refusal ps t s) (tableWords (length ps)) refl refused e
 
+  judged : Among judgments (orElse (lendFault (length ps) s) (listFault ps))
+  unfolding lendFault countFault spaceFault some?
+  judged = among-or judgments _ _ (among-or judgments _ _ (among-refuse judgments (eqb (length ps) 0 || ltb mostEntries (length ps)) count refl) (among-refuse judgments (ltb s (spaceWords (length ps))) shortSpace refl)) (among-list judgments refl refl refl ps)
+
+  -- judging gives 0, 1 and 3 to 6
   pub judging-numbers : has (0 ∷ judgments) (judging ps s .number) ≡ true
-  unfolding judging lendFault countFault spaceFault some?
-  judging-numbers = among-answer judgments _ (length ps) (among-or judgments _ _ (among-or judgments _ _ (among-refuse judgments (eqb (length ps) 0 || ltb mostEntries (length ps)) count refl) (among-refuse judgments (ltb s (spaceWords (length ps))) shortSpace refl)) (among-list judgments refl refl refl ps))
+  unfolding judging
+  judging-numbers = among-answer judgments _ (length ps) judged
+
+  pub judging-none : judging ps s .number ≡ 0 → (lendFault (length ps) s ≡ none) × (listFault ps ≡ none)
+  unfolding judging some?
+  judging-none e = none-or _ _ (among-accepts judgments _ (length ps) refl judged e)
+
+  -- and 0 just where the list has from 1 to 1,048,576 entries and forms one tree, and the space is long enough
+  pub judging-iff : (judging ps s .number ≡ 0) ↔ ((1 ≤ length ps) × (length ps ≤ mostEntries) × Tree ps × (spaceWords (length ps) ≤ s))
+  unfolding judging lendFault spaceFault orElse Option·elim
+  judging-iff = (
+    λ e.
+        let (lent, sound) = judging-none e in
+        let (counted, space) = none-or _ _ lent in
+        let (one, most, tree) = accepted-iff ps .0 (record { counted = counted; sound = sound }) in
+        (one, most, tree, not-short s (spaceWords (length ps)) shortSpace space),
+    λ h. let a = accepted-iff ps .1 (h .0, h .1, h .2) in rw (a .counted, le-ltb s (spaceWords (length ps)) (h .3), a .sound),
+  )
 
   -- 0 is given just where the list has from 1 to 1,048,576 entries and forms one tree, and table and space are long enough
   pub zero-iff : (preparing ps t s .number ≡ 0) ↔ ((1 ≤ length ps) × (length ps ≤ mostEntries) × Tree ps × (tableWords (length ps) ≤ t) × (spaceWords (length ps) ≤ s))

@@ -1,94 +1,120 @@
 -- `prepare` meets its contract. Assumes nothing.
-use mathlib.Core.Path.{_≡_, sym, ap, _∙_}
-use mathlib.Core.List.{_++_}
-use Prim.Native.Nat.{_+_, _*_, _-_, _/_, _≤_}
+use mathlib.Core.Path.{_≡_, refl, sym, ap, ap₂, _∙_}
+use mathlib.Core.List.{List, _++_}
+use mathlib.Core.Option.{none}
+use Prim.Native.Nat.{ℕ, _+_, _*_, _-_, _/_, _≤_, min}
+use native.Mathlib.Nat.{min-eq-left}
 use native.Mathlib.Omega.{arith}
 use borrow.Author.Needs.{needs}
-use borrow.Rule.Slice.PartMut.{mid-len, drop-put}
-use lib.ListN.{length, drop, replicate}
-use Rattle.base.specs.Numbers.{count, shortTable, shortSpace}
-use Rattle.base.specs.Limits.{mostEntries}
+use borrow.Rule.Slice.PartMut.{putMid, mid-len, post-is, drop-put}
+use lib.ListN.{length, drop, replicate, length-append}
+use Rattle.base.specs.Numbers.{count, shortTable, accepted}
+use Rattle.base.specs.Limits.{mostEntries, tableWords}
+use Rattle.tree.specs.Faults.{Tree}
+use Rattle.table.specs.Preparing.{countFault, lendFault, callFault}
 use Rattle.table.proofs.Accepting.{count-iff}
-use Rattle.prepare.proofs.Verdicts.{says, counted, uncounted}
-use Rattle.prepare.proofs.Calls.{call-count, call-table, call-space, call-fine, turned-away, let-through, written}
+use Rattle.table.proofs.Answering.{judging-iff}
+use Rattle.judge.proofs.Verdicts.{says, counted, uncounted}
+use Rattle.prepare.proofs.Calls.{call-count, call-table, call-lent, turned-away, judged-away, let-through, walked-of}
 use Rattle.prepare.proofs.Promises.{promised}
 use Rattle.prepare.proofs.prepare.Statement.{statement}
 use Rattle.prepare.proofs.prepare.Tie as tie
 
--- past the first test the list has at most 1,048,576 entries
-few : (c : tie.Else1) → length (c .before .before .before .before .before .args .parents .now) ≤ mostEntries
-few c = count-iff _ .0 (counted _ (c .before .countable .result) (c .if1 .left) (c .before .countable .ensures)) .1
+abbrev start : tie.After-countable → tie.Start
+start k = k .before .before .before .before
+
+abbrev list : tie.After-countable → List ℕ
+list k = start k .args .parents .now
+
+abbrev cells : tie.After-countable → List ℕ
+cells k = start k .args .table .now
+
+abbrev space : tie.After-countable → List ℕ
+space k = start k .args .space .now
+
+fine : (c : tie.Else1) → countFault (length (list (c .before))) ≡ none
+fine c = counted _ (c .before .countable .result) (c .if1 .left) (c .before .countable .ensures)
+
+few : (c : tie.Else1) → length (list (c .before)) ≤ mostEntries
+few c = count-iff _ .0 (fine c) .1
 
 returns : tie.Need-returns
 returns c =
-    let s = c .before .before .before .before .before in
-    let ps = s .args .parents .now in
-    let t = s .args .table .now in
-    let xs = s .args .space .now in
-    let (a, b, d) = turned-away ps t xs count (call-count (length ps) (length t) (length xs) (uncounted (length ps) (c .before .countable .result) (c .if1 .taken) (c .before .countable .ensures))) in
-    promised ps t xs _ _ t xs (says _ count a) (sym b) (sym d)
-
-mul-w : tie.Need-mul-w
-mul-w c =
-    omega (arith, few c)
-
-add-w : tie.Need-add-w
-add-w c =
-    omega (arith, few c)
-
-add-w-2 : tie.Need-add-w-2
-add-w-2 c =
-    omega (arith, few c)
+    let k = c .before in
+    let (a, b, d) = turned-away (list k) (cells k) (space k) count (call-count _ _ _ (uncounted _ (k .countable .result) (c .if1 .taken) (k .countable .ensures))) in
+    promised (list k) (cells k) (space k) _ _ _ _ (says _ count a) (sym b) (sym d)
 
 returns-2 : tie.Need-returns-2
 returns-2 c =
-    let s = c .before .before .before .before .before .before in
-    let ps = s .args .parents .now in
-    let t = s .args .table .now in
-    let xs = s .args .space .now in
-    let (a, b, d) = turned-away ps t xs shortTable (call-table (length ps) (length t) (length xs) (counted (length ps) (c .before .before .countable .result) (c .before .if1 .left) (c .before .before .countable .ensures)) (omega arith)) in
-    promised ps t xs _ _ t xs (says _ shortTable a) (sym b) (sym d)
+    let k = c .before .before in
+    let (a, b, d) = turned-away (list k) (cells k) (space k) shortTable (call-table _ _ _ (fine (c .before)) (omega arith)) in
+    promised (list k) (cells k) (space k) _ _ _ _ (says _ shortTable a) (sym b) (sym d)
+
+-- past both tests
+abbrev tested : tie.After-preorder → tie.Else2
+tested p = p .before .before
+
+abbrev known : tie.After-preorder → tie.After-countable
+known p = tested p .before .before
+
+lent : (p : tie.After-preorder) → callFault (length (list (known p))) (length (cells (known p))) (length (space (known p))) ≡ lendFault (length (list (known p))) (length (space (known p)))
+lent p = call-lent _ _ _ (fine (tested p .before)) (omega (arith, tested p .if2 .left))
 
 returns-3 : tie.Need-returns-3
 returns-3 c =
-    let s = c .before .before .before .before .before .before .before in
-    let ps = s .args .parents .now in
-    let t = s .args .table .now in
-    let xs = s .args .space .now in
-    let (a, b, d) = turned-away ps t xs shortSpace (call-space (length ps) (length t) (length xs) (counted (length ps) (c .before .before .before .countable .result) (c .before .before .if1 .left) (c .before .before .before .countable .ensures)) (omega arith) (omega arith)) in
-    promised ps t xs _ _ t xs (says _ shortSpace a) (sym b) (sym d)
+    let p = c .before .before .before .before in
+    let k = known p in
+    let not = c .if3 .taken in
+    let (a, b, d) = judged-away (list k) (cells k) (space k) (lent p) _ _ (p .preorder .ensures .0) not in
+    promised (list k) (cells k) (space k) _ _ _ _ a (sym b) (p .preorder .ensures .1 .1 .0 not ∙ sym d)
 
-accept-requires : tie.Need-accept-requires
-accept-requires c κs =
-    let o = c .before .before in
-    let s = o .before .before .before .before .before .before .before in
-    let ps = s .args .parents .now in
-    let n = length ps in (
-      few (o .before .before),
-      mid-len 0 (4 + n * 11 + n / 6 * 21) (s .args .table .now) (omega (arith, o .before .if2 .left)) ∙ omega arith,
-      mid-len 0 (n * 6) (s .args .space .now) (omega (arith, o .if3 .left)) ∙ omega arith,
+-- a list that forms one tree
+abbrev judged : tie.Else3 → tie.After-preorder
+judged e = e .before .before .before .before
+
+abbrev ps : tie.Else3 → List ℕ
+ps e = list (known (judged e))
+
+abbrev xs : tie.Else3 → List ℕ
+xs e = space (known (judged e))
+
+-- the space as judging left it
+abbrev ys : tie.Else3 → List ℕ
+ys e = judged e .preorder .last .1 .0
+
+forms : (e : tie.Else3) → (1 ≤ length (ps e)) × (length (ps e) ≤ mostEntries) × Tree (ps e) × (6 * length (ps e) ≤ length (xs e))
+forms e = judging-iff (ps e) 0 (length (xs e)) .0 (sym (judged e .preorder .ensures .0 .0) ∙ e .if3 .left)
+
+room : (e : tie.Else3) → length (ps e) * 6 ≤ length (ys e)
+room e = omega (arith, forms e .3, judged e .preorder .kept .1 .0)
+
+fill-table-requires : tie.Need-fill-table-requires
+fill-table-requires c κs =
+    let e = c .before .before in
+    let n = length (ps e) in (
+      walked-of (ps e) (ys e) (n * 6) (forms e .1) (forms e .2) (omega arith) (room e) (judged e .preorder .ensures .1 .1 .1 .0 (e .if3 .left)),
+      mid-len 0 (4 + n * 11 + n / 6 * 21) (cells (known (judged e))) (omega (arith, tested (judged e) .if2 .left)) ∙ omega arith,
     )
 
 returns-4 : tie.Need-returns-4
 returns-4 c =
-    let o = c .before .before .before .before .before .before .before .before .before .before .before in
-    let s = o .before .before .before .before .before .before .before in
-    let ps = s .args .parents .now in
-    let t = s .args .table .now in
-    let xs = s .args .space .now in
-    let n = length ps in
-    let a = c .before .before .before .before .before .before .before .before .accept in
-    let m : n * 6 ≡ 6 * n = omega arith in
-    let room : n * 6 ≤ length xs = omega (arith, o .if3 .left) in
-    let long : 4 + n * 11 + n / 6 * 21 ≤ length t = omega (arith, o .before .if2 .left) in
-    let same : length (a .last .1 .1 .0) ≡ n * 6 - 0 = a .kept .1 .1 .0 ∙ mid-len 0 (n * 6) xs room in
-    let (p, q, r) = let-through ps t xs (call-fine (length ps) (length t) (length xs) (counted (length ps) (o .before .before .before .countable .result) (o .before .before .if1 .left) (o .before .before .before .countable .ensures)) (omega arith) (omega arith)) in
-    promised ps t xs _ _ _ _ (rw p (a .ensures .0))
-    (written ps t (a .last .1 .0) (4 + n * 11 + n / 6 * 21) (omega arith) long (a .ensures .1) ∙ sym q)
-    (c .before .before .clear .ensures
-    ∙ ap (λ l. replicate (n * 6) 0 ++ l) (drop-put 0 (n * 6) xs (a .last .1 .1 .0) (omega arith) room same)
-    ∙ ap (λ k. replicate k 0 ++ drop k xs) m
-    ∙ sym r)
+    let f = c .before .before .before .before .before .before .before .before in
+    let e = f .before .before .before in
+    let k = known (judged e) in
+    let n = length (ps e) in
+    let w = 4 + n * 11 + n / 6 * 21 in
+    let m = n * 6 in
+    let p = judged e .preorder in
+    let z : m ≡ 6 * n = omega arith in
+    let y : w ≡ tableWords n = omega arith in
+    let long : length (f .fill-table .last .1 .1 .0) ≡ m - 0 = f .fill-table .kept .1 .1 .0 ∙ mid-len 0 m (ys e) (room e) in
+    let back = putMid 0 (m - 0) (ys e) (f .fill-table .last .1 .1 .0) in
+    let whole : m ≤ length back = simp length-append (omega (arith, long)) in
+    let beyond : drop m back ≡ drop m (xs e) = drop-put 0 m (ys e) (f .fill-table .last .1 .1 .0) (omega arith) (room e) long ∙ rw z (p .ensures .1 .1 .1 .1) in
+    let (a, b, d) = let-through (ps e) (cells k) (xs e) (lent (judged e)) _ _ (p .ensures .0) (e .if3 .left) in
+    promised (ps e) (cells k) (xs e) 0 w _ _ (rw (a, ← y) (says _ _ refl))
+    (ap₂ _++_ (f .fill-table .ensures) (post-is 0 w (cells k) (omega arith) ∙ ap (λ j. drop j (cells k)) y) ∙ sym b)
+    (c .before .before .clear .ensures ∙ ap₂ _++_ (ap (λ j. replicate j 0) (min-eq-left whole)) beyond ∙ ap (λ j. replicate j 0 ++ drop j (xs e)) z ∙ sym d)
 
 pub prepare-spec : {M : Type 1} → statement M
 prepare-spec =
@@ -96,11 +122,12 @@ prepare-spec =
     (tie.spec
     (λ c κs. search needs)
     returns
-    mul-w
-    add-w
+    (λ c. omega (arith, few c))
+    (λ c. omega (arith, few c))
     (λ c. search needs)
-    add-w-2
+    (λ c. omega (arith, few c))
     returns-2
+    (λ c κs. search needs)
     (λ c. search needs)
     returns-3
     (λ c. search needs)
@@ -109,8 +136,10 @@ prepare-spec =
     (λ c. search needs)
     (λ c. search needs)
     (λ c. search needs)
-    accept-requires
+    (λ c. omega (arith, room (c .before)))
+    fill-table-requires
     (λ c κs. search needs)
+    (λ c. omega (arith, few (tested (judged (c .before .before .before .before .before .before .before .before .before .before .before)) .before)))
     (λ c. search needs)
     (λ c. search needs)
     returns-4)

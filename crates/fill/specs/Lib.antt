@@ -1,2 +1,0 @@
--- What the functions that fill the table read and leave.
-pub mod Arrays

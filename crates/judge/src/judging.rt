@@ -1,0 +1,66 @@
+// Judging a parent list.
+ghost use mathlib.Core.Path.{_≡_};
+ghost use mathlib.Core.List.{[], _∷_};
+ghost use mathlib.Core.Bool.{true, cond};
+ghost use mathlib.Core.Option.{none, some};
+ghost use lib.ListN.{length, drop};
+ghost use Rattle.base.specs.Lists.{has};
+ghost use Rattle.base.specs.Limits.{spaceWords};
+ghost use Rattle.base.specs.Numbers.{count, Says};
+ghost use Rattle.table.specs.Preparing.{countFault, judging, judgedSpace};
+ghost use Rattle.judge.specs.Regions.{Ordered};
+use crate::faults::faults;
+use base::Reply;
+use base::clear;
+
+// Whether a list of n entries is not turned away for its count.
+pub fn countable(n: usize) -> bool
+    ensures { λ r. ⌜ countFault n ≡ cond r none (some count) ⌝ }
+{
+    if n == 0 {
+        return false;
+    }
+    if 1048576 < n {
+        return false;
+    }
+    true
+}
+
+// Whether a parent list forms one tree (0 names n), and if not, why. A list that does leaves its preorder and its depths in the space; a refusal leaves
+// the space zero where it was used, and else unchanged.
+pub fn preorder(parents: &[u32], space: &mut [u32]) -> Reply
+    ensures answer { λ r. ⌜ Says (judging (now (parents .entry)) (length (now (space .entry)))) (r .number) (r .word) ⌝ }
+    ensures numbers { λ r. ⌜ has (0 ∷ 1 ∷ 3 ∷ 4 ∷ 5 ∷ 6 ∷ []) (r .number) ≡ true ⌝ }
+    ensures refused { λ r. ⌜ ((r .number ≡ 0 → ⊥) → now (space .exit) ≡ judgedSpace (now (parents .entry)) (now (space .entry))) ⌝ }
+    ensures ordered { λ r. ⌜ (r .number ≡ 0 → Ordered (now (parents .entry)) (now (space .exit))) ⌝ }
+    ensures beyond { λ _. ⌜ drop (spaceWords (length (now (parents .entry)))) (now (space .exit)) ≡ drop (spaceWords (length (now (parents .entry)))) (now (space .entry)) ⌝ }
+{
+    let n = parents.len();
+    if !countable(n) {
+        return Reply { number: 1, word: 0 };
+    }
+    let m = n * 6;
+    if space.len() < m {
+        return Reply { number: 3, word: 0 };
+    }
+    let found = faults(parents, &mut space[0..m]);
+    if found.number == 0 {
+        return found;
+    }
+    clear(space, m);
+    found
+}
+
+// Whether a parent list forms one tree (0 names n), and if not, why. The space is left zero where it was used, and else unchanged.
+pub fn judge(parents: &[u32], space: &mut [u32]) -> Reply
+    ensures answer { λ r. ⌜ Says (judging (now (parents .entry)) (length (now (space .entry)))) (r .number) (r .word) ⌝ }
+    ensures numbers { λ r. ⌜ has (0 ∷ 1 ∷ 3 ∷ 4 ∷ 5 ∷ 6 ∷ []) (r .number) ≡ true ⌝ }
+    ensures left { λ _. ⌜ now (space .exit) ≡ judgedSpace (now (parents .entry)) (now (space .entry)) ⌝ }
+{
+    let found = preorder(parents, space);
+    if found.number != 0 {
+        return found;
+    }
+    clear(space, parents.len() * 6);
+    found
+}

@@ -1,0 +1,25 @@
+-- `sections::header_cells` meets its contract. Assumes nothing.
+use native.Mathlib.Omega.{arith}
+use mathlib.Core.Path.{refl}
+use borrow.Author.Needs.{needs}
+use Rattle.base.proofs.Puts.{lent-back}
+use Rattle.prepare.proofs.sections.header_cells.Statement.{statement}
+use Rattle.prepare.proofs.sections.header_cells.Tie as tie
+
+returns : tie.Need-returns
+returns c =
+    let s = c .before .before .before .before .before .before .before in
+    lent-back 0 4 (s .args .table .now) _ _ (c .before .before .copy .ensures) refl
+
+pub header-cells-spec : {M : Type 1} → statement M
+header-cells-spec =
+    tie.close
+    (tie.spec
+    (λ c. search needs)
+    (λ c. search needs)
+    (λ c. search needs)
+    (λ c. search needs)
+    (λ c. search needs)
+    (λ c κs. search needs)
+    (λ c. search needs)
+    returns)

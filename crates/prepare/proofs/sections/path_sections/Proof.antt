@@ -1,0 +1,33 @@
+-- `sections::path_sections` meets its contract. Assumes nothing.
+use mathlib.Core.Path.{ap, _∙_}
+use Prim.Native.Nat.{_+_, _*_}
+use borrow.Author.Needs.{needs}
+use lib.ListN.{length}
+use Rattle.base.specs.Lists.{below, put}
+use Rattle.table.specs.Ladders.{ladPos}
+use Rattle.prepare.proofs.Assembly.{laddered}
+use Rattle.prepare.proofs.sections.path_sections.Statement.{statement}
+use Rattle.prepare.proofs.sections.path_sections.Tie as tie
+
+returns : tie.Need-returns
+returns c =
+    let s = c .before .before .before .before .before .before .before .before .before .before .before .before .before .before .before in
+    let ps = s .args .parents .now in
+    let n = length ps in
+    let w = s .pre .0 .walked in
+    let p = c .before .before .before .before .before .before .before .before .before .ladder-section in
+    let laid = c .before .before .by-entry .ensures (ladPos ps) (p .ensures .1 .0 .places) ∙ ap (λ l. put l (4 + n * 2) (below n (ladPos ps))) (p .ensures .1 .1) in
+    (p .ensures .0, (p .ensures .1 .0 .walked, rw laid (laddered ps (s .args .table .now) (s .pre .1) (w .few) (w .tree) (s .pre .2))))
+
+pub path-sections-spec : {M : Type 1} → statement M
+path-sections-spec =
+    tie.close
+    (tie.spec
+    (λ c κs. search needs)
+    (λ c. search needs)
+    (λ c. search needs)
+    (λ c. search needs)
+    (λ c κs. search needs)
+    (λ c. search needs)
+    (λ c. search needs)
+    returns)

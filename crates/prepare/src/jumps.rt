@@ -1,0 +1,52 @@
+// What JUMPS is laid from: the jump entries, and the record of each.
+ghost use mathlib.Core.Path.{_≡_};
+ghost use mathlib.Core.List.{List};
+ghost use Prim.Native.Nat.{ℕ, _<_};
+ghost use lib.ListN.{length};
+ghost use Rattle.tree.specs.Parents.{depth};
+ghost use Rattle.table.specs.Groups.{jumpRecord};
+ghost use Rattle.prepare.specs.Arrays.{Jumping, Listed, Reaching};
+use base::Node;
+use base::Position;
+
+// The jump entries, in preorder: of the entries of size over 5 that lead to one jump entry, that entry stands last.
+pub(crate) fn jump_nodes(order: &[u32], kind: &[u32], cells: &mut [u32])
+    requires { ⌜ ((ps : List ℕ) × Jumping ps (now order) (now kind)) × (length (now cells) ≡ length (now order)) ⌝ }
+    ensures { λ _. ⌜ ((ps : List ℕ) → Jumping ps (now (order .entry)) (now (kind .entry)) → Listed ps (now (cells .exit))) ⌝ }
+{
+    let mut next = Position(0);
+    while (next.0 as usize) < order.len() {
+        let at = next;
+        next = Position(at.0 + 1);
+        let v = Node(order[at.0 as usize]);
+        let k = kind[v.0 as usize];
+        if k < 2147483648 {
+            cells[k as usize] = v.0;
+        }
+    }
+}
+
+// A jump entry's record, from LADPOS and LADDERS: each ancestor by one ladder from the one before.
+pub(crate) fn record(places: &[u32], rungs: &[u32], deep: u32, v: Node) -> [u32; 21]
+    requires { ⌜ ((ps : List ℕ) × Reaching ps (now places) (now rungs) × (v .0 < length ps) × (deep ≡ depth ps (v .0))) ⌝ }
+    ensures { λ r. ⌜ ((ps : List ℕ) → Reaching ps (now (places .entry)) (now (rungs .entry)) → v .0 < length ps → deep ≡ depth ps (v .0) → r ≡ jumpRecord ps (v .0)) ⌝ }
+{
+    let mut r: [u32; 21] = [0; 21];
+    r[0] = deep;
+    let mut w = v;
+    let mut s: u32 = 1;
+    let mut t: u32 = 1;
+    let mut e: usize = 1;
+    while e < 21 {
+        if deep < t {
+            return r;
+        }
+        let place = places[w.0 as usize];
+        w = Node(rungs[(place - s) as usize]);
+        r[e] = w.0;
+        s = t;
+        t += t;
+        e += 1;
+    }
+    r
+}

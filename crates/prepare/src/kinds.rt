@@ -1,0 +1,55 @@
+// KIND.
+ghost use mathlib.Core.Path.{_≡_};
+ghost use mathlib.Core.List.{List};
+ghost use Prim.Native.Nat.{ℕ};
+ghost use lib.ListN.{length};
+ghost use Rattle.prepare.specs.Arrays.{Families, Kinded};
+use base::Node;
+use base::Position;
+
+// The groups and the jump entries.
+pub struct Counts {
+    pub groups: u32,
+    pub jumps: u32,
+}
+
+// KIND, each word in its entry's cell. A position of size 5 or less starts a group just where the last one has ended. The last position of a size over 5 is a
+// jump entry's just where the next such position lies past its family.
+pub(crate) fn kinds(order: &[u32], size: &[u32], cells: &mut [u32]) -> Counts
+    requires { ⌜ ((ps : List ℕ) × Families ps (now order) (now size)) × (length (now cells) ≡ length (now size)) ⌝ }
+    ensures { λ r. ⌜ ((ps : List ℕ) → Families ps (now (order .entry)) (now (size .entry)) → Kinded ps (r .groups) (r .jumps) (now (cells .exit))) ⌝ }
+{
+    let mut groups: u32 = 0;
+    let mut jumps: u32 = 0;
+    let mut root = Position(0);
+    let mut end = Position(0);
+    let mut last = Position(0);
+    let mut next = Position(0);
+    while (next.0 as usize) < size.len() {
+        let at = next;
+        next = Position(at.0 + 1);
+        let v = Node(order[at.0 as usize]);
+        let entries = size[at.0 as usize];
+        if entries <= 5 {
+            if end.0 <= at.0 {
+                groups += 1;
+                root = at;
+                end = Position(at.0 + entries);
+            }
+            cells[v.0 as usize] = 2147483648 + 8 * (groups - 1) + (at.0 - root.0);
+        } else {
+            if last.0 + size[last.0 as usize] <= at.0 {
+                jumps += 1;
+            }
+            cells[v.0 as usize] = jumps;
+            last = at;
+        }
+    }
+    if size[0] <= 5 {
+        return Counts { groups, jumps };
+    }
+    Counts {
+        groups,
+        jumps: jumps + 1,
+    }
+}

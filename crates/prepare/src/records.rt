@@ -1,0 +1,66 @@
+// JUMPS.
+ghost use mathlib.Core.Path.{_≡_};
+ghost use mathlib.Core.List.{flatMap};
+ghost use Prim.Native.Nat.{ℕ, _+_, _*_, _<_, _≤_};
+ghost use lib.ListN.{length, getD};
+ghost use Rattle.base.specs.Lists.{put};
+ghost use Rattle.base.specs.Limits.{tableWords, groupLimit, recordWords};
+ghost use Rattle.table.specs.Groups.{jumpNodes, jumpRecord};
+ghost use Rattle.table.specs.Table.{jumpCells};
+ghost use Rattle.prepare.specs.Stages.{Walked, Sectioned, Reached};
+use crate::jumps::jump_nodes;
+use crate::jumps::record;
+use crate::spread::copy;
+use base::Node;
+use base::set_all;
+
+// The record of an entry, from DEPTH, LADPOS and the ladders, which lie wherever they are said to, into the words from `at` on.
+fn fill_record(parents: &[u32], table: &mut [u32], ladders: usize, at: usize, v: Node)
+    requires { ⌜ Reached (now parents) ladders (now table) × (v .0 < length (now parents)) × (at + recordWords ≤ length (now table)) ⌝ }
+    ensures { λ _. ⌜ now (table .exit) ≡ put (now (table .entry)) at (jumpRecord (now (parents .entry)) (v .0)) ⌝ }
+{
+    let n = parents.len();
+    let a = 4 + n * 2;
+    let b = a + n;
+    let end = ladders + n * 2;
+    let deep = table[4 + v.0 as usize];
+    let words = record(&table[a..b], &table[ladders..end], deep, v);
+    copy(&words[..], &mut table[at..at + 21]);
+}
+
+// The records of the entries of a list, one behind another. Where the ladders lie is worked out once.
+fn records(parents: &[u32], table: &mut [u32], ladders: usize, first: usize, nodes: &[u32])
+    requires { ⌜ Reached (now parents) ladders (now table) × (4 + length (now parents) * 3 ≤ first) × (ladders + length (now parents) * 2 ≤ first) × (first + recordWords * length (now nodes) ≤ length (now table)) × ((i : ℕ) → i < length (now nodes) → getD (now nodes) i 0 < length (now parents)) ⌝ }
+    ensures { λ _. ⌜ now (table .exit) ≡ put (now (table .entry)) first (flatMap (jumpRecord (now (parents .entry))) (now (nodes .entry))) ⌝ }
+{
+    let mut at = first;
+    let mut i: usize = 0;
+    while i < nodes.len() {
+        fill_record(parents, table, ladders, at, Node(nodes[i]));
+        at += 21;
+        i += 1;
+    }
+}
+
+// JUMPS, with the list of the jump entries in region 2.
+pub(crate) fn jump_section(parents: &[u32], jumps: u32, table: &mut [u32], space: &mut [u32])
+    requires { ⌜ Walked (now parents) (now space) × Sectioned (now parents) (now table) × (length (now table) ≡ tableWords (length (now parents))) × (jumps ≡ length (jumpNodes groupLimit (now parents))) ⌝ }
+    ensures { λ _. ⌜ now (table .exit) ≡ put (now (table .entry)) (4 + length (now (parents .entry)) * 11) (jumpCells (now (parents .entry))) ⌝ }
+{
+    let n = parents.len();
+    let b = n * 2;
+    let first = 4 + n * 11;
+    jump_nodes(
+        &table[4 + n * 3..4 + n * 4],
+        &table[4 + n..4 + n * 2],
+        &mut space[b..n * 3],
+    );
+    set_all(&mut table[first..], 0);
+    records(
+        parents,
+        table,
+        4 + n * 6,
+        first,
+        &space[b..b + jumps as usize],
+    );
+}

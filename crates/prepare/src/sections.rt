@@ -1,0 +1,115 @@
+// The sections of the table, each lent on as a part of it. The table lent here has W words, and the space 6n.
+ghost use mathlib.Core.Path.{_≡_};
+ghost use mathlib.Core.List.{[], _∷_};
+ghost use Prim.Native.Nat.{_+_, _*_, _≤_};
+ghost use lib.ListN.{length};
+ghost use Rattle.base.specs.Lists.{below, put};
+ghost use Rattle.base.specs.Limits.{tableWords, groupLimit};
+ghost use Rattle.tree.specs.Forest.{position};
+ghost use Rattle.table.specs.Groups.{groupRoots, jumpNodes, kind};
+ghost use Rattle.table.specs.Ladders.{pathTops};
+ghost use Rattle.table.specs.Table.{ladderCells, groupCells};
+ghost use Rattle.prepare.specs.Stages.{Walked, Measured, Placing, Familied, Laddered, Sectioned};
+use crate::kinds::Counts;
+use crate::parts::by_entry;
+use crate::parts::carry;
+use crate::spread::copy;
+
+// KIND.
+fn kind_section(parents: &[u32], table: &mut [u32], space: &[u32]) -> Counts
+    requires { ⌜ Measured (now parents) (now space) × (length (now table) ≡ tableWords (length (now parents))) ⌝ }
+    ensures counts { λ r. ⌜ (r .groups ≡ length (groupRoots groupLimit (now (parents .entry)))) × (r .jumps ≡ length (jumpNodes groupLimit (now (parents .entry)))) ⌝ }
+    ensures laid { λ _. ⌜ now (table .exit) ≡ put (now (table .entry)) (4 + length (now (parents .entry))) (below (length (now (parents .entry))) (kind groupLimit (now (parents .entry)))) ⌝ }
+{
+    let n = parents.len();
+    let a = 4 + n;
+    let b = a + n;
+    crate::kinds::kinds(&space[0..n], &space[n * 2..n * 3], &mut table[a..b])
+}
+
+// GROUPS.
+fn group_section(parents: &[u32], table: &mut [u32], space: &[u32])
+    requires { ⌜ Measured (now parents) (now space) × (length (now table) ≡ tableWords (length (now parents))) ⌝ }
+    ensures { λ _. ⌜ now (table .exit) ≡ put (now (table .entry)) (4 + length (now (parents .entry)) * 8) (groupCells (now (parents .entry))) ⌝ }
+{
+    let n = parents.len();
+    let a = 4 + n * 8;
+    let b = a + n * 3;
+    crate::grouping::groups(
+        &space[0..n],
+        &space[n..n * 2],
+        &space[n * 2..n * 3],
+        &space[n * 3..n * 4],
+        &mut table[a..b],
+    );
+}
+
+// KIND, SIZE and GROUPS.
+pub(crate) fn family_sections(parents: &[u32], table: &mut [u32], space: &[u32]) -> Counts
+    requires { ⌜ Measured (now parents) (now space) × (length (now table) ≡ tableWords (length (now parents))) ⌝ }
+    ensures counts { λ r. ⌜ (r .groups ≡ length (groupRoots groupLimit (now (parents .entry)))) × (r .jumps ≡ length (jumpNodes groupLimit (now (parents .entry)))) ⌝ }
+    ensures laid { λ _. ⌜ Familied (now (parents .entry)) (now (table .exit)) ⌝ }
+{
+    let n = parents.len();
+    let counts = kind_section(parents, table, space);
+    by_entry(parents, space, n * 2, table, 4 + n * 5);
+    group_section(parents, table, space);
+    counts
+}
+
+// LADDERS, with LADPOS by position in region 2; hands back how many long paths there are.
+fn ladder_section(parents: &[u32], table: &mut [u32], space: &mut [u32]) -> u32
+    requires { ⌜ Measured (now parents) (now space) × (length (now table) ≡ tableWords (length (now parents))) ⌝ }
+    ensures paths { λ r. ⌜ r ≡ length (pathTops (now (parents .entry))) ⌝ }
+    ensures kept { λ _. ⌜ Placing (now (parents .entry)) (now (space .exit)) ⌝ }
+    ensures laid { λ _. ⌜ now (table .exit) ≡ put (now (table .entry)) (4 + length (now (parents .entry)) * 6) (ladderCells (now (parents .entry))) ⌝ }
+{
+    let n = parents.len();
+    let a = 4 + n * 6;
+    let b = a + n * 2;
+    crate::laying::paths(n, space, &mut table[a..b])
+}
+
+// LADDERS and LADPOS, beside the sections that stand; hands back how many long paths there are.
+pub(crate) fn path_sections(parents: &[u32], table: &mut [u32], space: &mut [u32]) -> u32
+    requires { ⌜ Measured (now parents) (now space) × (length (now table) ≡ tableWords (length (now parents))) × Familied (now parents) (now table) ⌝ }
+    ensures paths { λ r. ⌜ r ≡ length (pathTops (now (parents .entry))) ⌝ }
+    ensures kept { λ _. ⌜ Walked (now (parents .entry)) (now (space .exit)) ⌝ }
+    ensures laid { λ _. ⌜ Familied (now (parents .entry)) (now (table .exit)) × Laddered (now (parents .entry)) (now (table .exit)) ⌝ }
+{
+    let n = parents.len();
+    let paths = ladder_section(parents, table, space);
+    by_entry(parents, space, n * 2, table, 4 + n * 2);
+    paths
+}
+
+// PRE.
+fn pre_section(parents: &[u32], table: &mut [u32], space: &[u32])
+    requires { ⌜ Walked (now parents) (now space) × (length (now table) ≡ tableWords (length (now parents))) ⌝ }
+    ensures { λ _. ⌜ now (table .exit) ≡ put (now (table .entry)) (4 + length (now (parents .entry)) * 4) (below (length (now (parents .entry))) (position (now (parents .entry)))) ⌝ }
+{
+    let n = parents.len();
+    let a = 4 + n * 4;
+    let b = a + n;
+    crate::spread::positions(&space[0..n], &mut table[a..b]);
+}
+
+// DEPTH, ORDER and PRE, beside the sections that stand.
+pub(crate) fn order_sections(parents: &[u32], table: &mut [u32], space: &[u32])
+    requires { ⌜ Walked (now parents) (now space) × (length (now table) ≡ tableWords (length (now parents))) × Familied (now parents) (now table) × Laddered (now parents) (now table) ⌝ }
+    ensures { λ _. ⌜ Sectioned (now (parents .entry)) (now (table .exit)) ⌝ }
+{
+    let n = parents.len();
+    by_entry(parents, space, n, table, 4);
+    carry(space, 0, table, 4 + n * 3, n);
+    pre_section(parents, table, space);
+}
+
+// Cells 0 to 3.
+pub(crate) fn header_cells(parents: &[u32], counts: Counts, paths: u32, table: &mut [u32])
+    requires { ⌜ (length (now parents) ≤ 1048576) × (4 ≤ length (now table)) ⌝ }
+    ensures { λ _. ⌜ now (table .exit) ≡ put (now (table .entry)) 0 (length (now (parents .entry)) ∷ counts .jumps ∷ counts .groups ∷ paths ∷ []) ⌝ }
+{
+    let cells = [parents.len() as u32, counts.jumps, counts.groups, paths];
+    copy(&cells[..], &mut table[0..4]);
+}
