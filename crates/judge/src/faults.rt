@@ -32,7 +32,7 @@ pub(crate) fn faults(parents: &[u32], space: &mut [u32]) -> Reply
             word: n as u32,
         };
     }
-    let second = Node(space[n * 3 + first.0 as usize]);
+    let second = Node(space[3 * n + first.0 as usize]);
     if (second.0 as usize) < n {
         return Reply {
             number: 5,

@@ -39,7 +39,7 @@ pub fn preorder(parents: &[u32], space: &mut [u32]) -> Reply
     if !countable(n) {
         return Reply { number: 1, word: 0 };
     }
-    let m = n * 6;
+    let m = 6 * n;
     if space.len() < m {
         return Reply { number: 3, word: 0 };
     }
@@ -61,6 +61,6 @@ pub fn judge(parents: &[u32], space: &mut [u32]) -> Reply
     if found.number != 0 {
         return found;
     }
-    clear(space, parents.len() * 6);
+    clear(space, 6 * parents.len());
     found
 }

@@ -11,8 +11,8 @@ pub(crate) fn link(parents: &[u32], space: &mut [u32]) -> Node
     ensures { λ r. ⌜ Linked (now (parents .entry)) 0 (heads (now (parents .entry)) (now (space .exit))) (nexts (now (parents .entry)) (now (space .exit))) (r .0) ⌝ }
 {
     let n = parents.len();
-    let a = n * 2;
-    let b = n * 3;
+    let a = 2 * n;
+    let b = 3 * n;
     set_all(&mut space[a..b], 4294967295);
     let mut first = Node(4294967295);
     let mut end = Node(n as u32);

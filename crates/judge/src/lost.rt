@@ -19,8 +19,8 @@ fn mark(parents: &[u32], count: usize, space: &mut [u32])
     ensures { λ _. ⌜ Marked (now (parents .entry)) (view (5 * length (now (parents .entry))) (length (now (parents .entry))) (now (space .exit))) ⌝ }
 {
     let n = parents.len();
-    let a = n * 5;
-    let b = n * 6;
+    let a = 5 * n;
+    let b = 6 * n;
     set_all(&mut space[a..b], 0);
     let mut at = Position(0);
     while (at.0 as usize) < count {
@@ -53,7 +53,7 @@ pub(crate) fn first_lost(parents: &[u32], count: usize, space: &mut [u32]) -> No
 {
     mark(parents, count, space);
     let n = parents.len();
-    let a = n * 5;
-    let b = n * 6;
+    let a = 5 * n;
+    let b = 6 * n;
     first_unmarked(&space[a..b])
 }

@@ -14,14 +14,14 @@ pub(crate) fn walk(parents: &[u32], first: Node, space: &mut [u32]) -> usize
     ensures { λ r. ⌜ (r ≡ length (order (now (parents .entry)))) × (view 0 r (now (space .exit)) ≡ order (now (parents .entry))) × (view (length (now (parents .entry))) r (now (space .exit)) ≡ levels 0 (whole (now (parents .entry)))) ⌝ }
 {
     let n = parents.len();
-    let top = n * 5;
+    let top = 5 * n;
     let mut count = 0;
     let mut sp = top;
     let mut cur = first;
     loop {
         if (cur.0 as usize) < n {
-            let next = Node(space[n * 3 + cur.0 as usize]);
-            let child = Node(space[n * 2 + cur.0 as usize]);
+            let next = Node(space[3 * n + cur.0 as usize]);
+            let child = Node(space[2 * n + cur.0 as usize]);
             space[count] = cur.0;
             space[n + count] = (top - sp) as u32;
             count += 1;

@@ -34,30 +34,30 @@ module _ (ps : List ℕ) where
   n = length ps
 
   module _ (t : List ℕ) (a : ℕ) (x : List ℕ) (fits : a + length x ≤ length t) where
-    pub familied-put : Apart a (length x) (4 + n) n → Apart a (length x) (4 + n * 5) n → Apart a (length x) (4 + n * 8) (n * 3) → Familied ps t → Familied ps (put t a x)
+    pub familied-put : Apart a (length x) (4 + n) n → Apart a (length x) (4 + 5 * n) n → Apart a (length x) (4 + 8 * n) (3 * n) → Familied ps t → Familied ps (put t a x)
     familied-put p q r f = record {
       kinds = stays t a x fits (4 + n) n p ∙ f .kinds;
-      sizes = stays t a x fits (4 + n * 5) n q ∙ f .sizes;
-      groups = stays t a x fits (4 + n * 8) (n * 3) r ∙ f .groups;
+      sizes = stays t a x fits (4 + 5 * n) n q ∙ f .sizes;
+      groups = stays t a x fits (4 + 8 * n) (3 * n) r ∙ f .groups;
     }
 
-    pub laddered-put : Apart a (length x) (4 + n * 2) n → Apart a (length x) (4 + n * 6) (n * 2) → Laddered ps t → Laddered ps (put t a x)
+    pub laddered-put : Apart a (length x) (4 + 2 * n) n → Apart a (length x) (4 + 6 * n) (2 * n) → Laddered ps t → Laddered ps (put t a x)
     laddered-put p q f = record {
-      places = stays t a x fits (4 + n * 2) n p ∙ f .places;
-      rungs = stays t a x fits (4 + n * 6) (n * 2) q ∙ f .rungs;
+      places = stays t a x fits (4 + 2 * n) n p ∙ f .places;
+      rungs = stays t a x fits (4 + 6 * n) (2 * n) q ∙ f .rungs;
     }
 
     -- JUMPS and the header leave the sections between them
-    pub sectioned-put : (4 + n * 11 ≤ a) ⊎ (a + length x ≤ 4) → Sectioned ps t → Sectioned ps (put t a x)
+    pub sectioned-put : (4 + 11 * n ≤ a) ⊎ (a + length x ≤ 4) → Sectioned ps t → Sectioned ps (put t a x)
     sectioned-put o s = record {
-      families = familied-put (apart (4 + n) n (omega arith) (omega arith)) (apart (4 + n * 5) n (omega arith) (omega arith)) (apart (4 + n * 8) (n * 3) (omega arith) (omega arith)) (s .families);
-      paths = laddered-put (apart (4 + n * 2) n (omega arith) (omega arith)) (apart (4 + n * 6) (n * 2) (omega arith) (omega arith)) (s .paths);
+      families = familied-put (apart (4 + n) n (omega arith) (omega arith)) (apart (4 + 5 * n) n (omega arith) (omega arith)) (apart (4 + 8 * n) (3 * n) (omega arith) (omega arith)) (s .families);
+      paths = laddered-put (apart (4 + 2 * n) n (omega arith) (omega arith)) (apart (4 + 6 * n) (2 * n) (omega arith) (omega arith)) (s .paths);
       depths = stays t a x fits 4 n (apart 4 n (omega arith) (omega arith)) ∙ s .depths;
-      orders = stays t a x fits (4 + n * 3) n (apart (4 + n * 3) n (omega arith) (omega arith)) ∙ s .orders;
-      pres = stays t a x fits (4 + n * 4) n (apart (4 + n * 4) n (omega arith) (omega arith)) ∙ s .pres;
+      orders = stays t a x fits (4 + 3 * n) n (apart (4 + 3 * n) n (omega arith) (omega arith)) ∙ s .orders;
+      pres = stays t a x fits (4 + 4 * n) n (apart (4 + 4 * n) n (omega arith) (omega arith)) ∙ s .pres;
     }
       where
-        apart : (b c : ℕ) → 4 ≤ b → b + c ≤ 4 + n * 11 → Apart a (length x) b c
+        apart : (b c : ℕ) → 4 ≤ b → b + c ≤ 4 + 11 * n → Apart a (length x) b c
         apart b c h k = ⊎-elim (λ p. inl (omega arith)) (λ p. inr (omega arith)) o
 
   -- DEPTH, ORDER and PRE beside the others
@@ -80,7 +80,7 @@ module _ (ps : List ℕ) where
     t₁ = put t 4 D
 
     t₂ : List ℕ
-    t₂ = put t₁ (4 + n * 3) (order ps)
+    t₂ = put t₁ (4 + 3 * n) (order ps)
 
     long₁ : length t₁ ≡ length t
     unfolding t₁
@@ -88,31 +88,31 @@ module _ (ps : List ℕ) where
 
     long₂ : length t₂ ≡ length t
     unfolding t₂
-    long₂ = put-length t₁ (4 + n * 3) (order ps) (omega (arith, long₁)) ∙ long₁
+    long₂ = put-length t₁ (4 + 3 * n) (order ps) (omega (arith, long₁)) ∙ long₁
 
-    pub sectioned : Sectioned ps (put (put (put t 4 (below n (depth ps))) (4 + n * 3) (order ps)) (4 + n * 4) (below n (position ps)))
+    pub sectioned : Sectioned ps (put (put (put t 4 (below n (depth ps))) (4 + 3 * n) (order ps)) (4 + 4 * n) (below n (position ps)))
     unfolding t₁ t₂ D P
     sectioned =
         let h = wide in
         let k = wide-p in
         let b₀ : 4 + length D ≤ length t = omega arith in
-        let b₁ : 4 + n * 3 + length (order ps) ≤ length t₁ = omega (arith, long₁) in
-        let b₂ : 4 + n * 4 + length P ≤ length t₂ = omega (arith, long₂) in
+        let b₁ : 4 + 3 * n + length (order ps) ≤ length t₁ = omega (arith, long₁) in
+        let b₂ : 4 + 4 * n + length P ≤ length t₂ = omega (arith, long₂) in
         record {
           families =
-              familied-put t₂ (4 + n * 4) P b₂ (inl (omega arith)) (inr (omega arith)) (inr (omega arith))
-              (familied-put t₁ (4 + n * 3) (order ps) b₁ (inl (omega arith)) (inr (omega arith)) (inr (omega arith))
+              familied-put t₂ (4 + 4 * n) P b₂ (inl (omega arith)) (inr (omega arith)) (inr (omega arith))
+              (familied-put t₁ (4 + 3 * n) (order ps) b₁ (inl (omega arith)) (inr (omega arith)) (inr (omega arith))
               (familied-put t 4 D b₀ (inr (omega arith)) (inr (omega arith)) (inr (omega arith)) f));
           paths =
-              laddered-put t₂ (4 + n * 4) P b₂ (inl (omega arith)) (inr (omega arith))
-              (laddered-put t₁ (4 + n * 3) (order ps) b₁ (inl (omega arith)) (inr (omega arith))
+              laddered-put t₂ (4 + 4 * n) P b₂ (inl (omega arith)) (inr (omega arith))
+              (laddered-put t₁ (4 + 3 * n) (order ps) b₁ (inl (omega arith)) (inr (omega arith))
               (laddered-put t 4 D b₀ (inr (omega arith)) (inr (omega arith)) l));
           depths =
-              stays t₂ (4 + n * 4) P b₂ 4 n (inl (omega arith))
-              ∙ stays t₁ (4 + n * 3) (order ps) b₁ 4 n (inl (omega arith))
+              stays t₂ (4 + 4 * n) P b₂ 4 n (inl (omega arith))
+              ∙ stays t₁ (4 + 3 * n) (order ps) b₁ 4 n (inl (omega arith))
               ∙ put-view t 4 D b₀ n h;
-          orders = stays t₂ (4 + n * 4) P b₂ (4 + n * 3) n (inl (omega arith)) ∙ put-view t₁ (4 + n * 3) (order ps) b₁ n all;
-          pres = put-view t₂ (4 + n * 4) P b₂ n k;
+          orders = stays t₂ (4 + 4 * n) P b₂ (4 + 3 * n) n (inl (omega arith)) ∙ put-view t₁ (4 + 3 * n) (order ps) b₁ n all;
+          pres = put-view t₂ (4 + 4 * n) P b₂ n k;
         }
 
 module _ (ps t : List ℕ) (long : length t ≡ tableWords (length ps)) (few : length ps ≤ mostEntries) (tree : Tree ps) where
@@ -131,45 +131,45 @@ module _ (ps t : List ℕ) (long : length t ≡ tableWords (length ps)) (few : l
   abbrev R : List ℕ
   R = ladderCells ps
 
-  groups-wide : length G ≡ n ps * 3
+  groups-wide : length G ≡ 3 * n ps
   groups-wide = padded-length (3 * n ps) _ (omega (arith, groups-length groupLimit ps, groups-few ps (omega arith) tree groupLimit)) ∙ omega arith
 
-  rungs-wide : length R ≡ n ps * 2
+  rungs-wide : length R ≡ 2 * n ps
   rungs-wide = padded-length (2 * n ps) _ (ladders-fit ps (omega arith) tree) ∙ omega arith
 
   -- KIND, SIZE and GROUPS
-  pub familied : Familied ps (put (put (put t (4 + n ps) K) (4 + n ps * 5) S) (4 + n ps * 8) G)
+  pub familied : Familied ps (put (put (put t (4 + n ps) K) (4 + 5 * n ps) S) (4 + 8 * n ps) G)
   familied =
       let k = each-length (n ps) 0 (kind groupLimit ps) in
       let s = each-length (n ps) 0 (size ps) in
       let g = groups-wide in
       let t₁ = put t (4 + n ps) K in
-      let t₂ = put t₁ (4 + n ps * 5) S in
+      let t₂ = put t₁ (4 + 5 * n ps) S in
       let b₀ : 4 + n ps + length K ≤ length t = omega arith in
       let long₁ = put-length t (4 + n ps) K b₀ in
-      let b₁ : 4 + n ps * 5 + length S ≤ length t₁ = omega arith in
-      let long₂ = put-length t₁ (4 + n ps * 5) S b₁ in
-      let b₂ : 4 + n ps * 8 + length G ≤ length t₂ = omega arith in
+      let b₁ : 4 + 5 * n ps + length S ≤ length t₁ = omega arith in
+      let long₂ = put-length t₁ (4 + 5 * n ps) S b₁ in
+      let b₂ : 4 + 8 * n ps + length G ≤ length t₂ = omega arith in
       record {
-        kinds = stays t₂ (4 + n ps * 8) G b₂ (4 + n ps) (n ps) (inl (omega arith)) ∙ stays t₁ (4 + n ps * 5) S b₁ (4 + n ps) (n ps) (inl (omega arith)) ∙ put-view t (4 + n ps) K b₀ (n ps) k;
-        sizes = stays t₂ (4 + n ps * 8) G b₂ (4 + n ps * 5) (n ps) (inl (omega arith)) ∙ put-view t₁ (4 + n ps * 5) S b₁ (n ps) s;
-        groups = put-view t₂ (4 + n ps * 8) G b₂ (n ps * 3) g;
+        kinds = stays t₂ (4 + 8 * n ps) G b₂ (4 + n ps) (n ps) (inl (omega arith)) ∙ stays t₁ (4 + 5 * n ps) S b₁ (4 + n ps) (n ps) (inl (omega arith)) ∙ put-view t (4 + n ps) K b₀ (n ps) k;
+        sizes = stays t₂ (4 + 8 * n ps) G b₂ (4 + 5 * n ps) (n ps) (inl (omega arith)) ∙ put-view t₁ (4 + 5 * n ps) S b₁ (n ps) s;
+        groups = put-view t₂ (4 + 8 * n ps) G b₂ (3 * n ps) g;
       }
 
   -- LADDERS and LADPOS beside them
-  pub laddered : Familied ps t → let t₂ = put (put t (4 + n ps * 6) R) (4 + n ps * 2) L in Familied ps t₂ × Laddered ps t₂
+  pub laddered : Familied ps t → let t₂ = put (put t (4 + 6 * n ps) R) (4 + 2 * n ps) L in Familied ps t₂ × Laddered ps t₂
   laddered f =
       let l = each-length (n ps) 0 (ladPos ps) in
       let r = rungs-wide in
-      let t₁ = put t (4 + n ps * 6) R in
-      let b₀ : 4 + n ps * 6 + length R ≤ length t = omega arith in
-      let long₁ = put-length t (4 + n ps * 6) R b₀ in
-      let b₁ : 4 + n ps * 2 + length L ≤ length t₁ = omega arith in (
-        familied-put ps t₁ (4 + n ps * 2) L b₁ (inl (omega arith)) (inr (omega arith)) (inr (omega arith))
-            (familied-put ps t (4 + n ps * 6) R b₀ (inl (omega arith)) (inl (omega arith)) (inr (omega arith)) f),
+      let t₁ = put t (4 + 6 * n ps) R in
+      let b₀ : 4 + 6 * n ps + length R ≤ length t = omega arith in
+      let long₁ = put-length t (4 + 6 * n ps) R b₀ in
+      let b₁ : 4 + 2 * n ps + length L ≤ length t₁ = omega arith in (
+        familied-put ps t₁ (4 + 2 * n ps) L b₁ (inl (omega arith)) (inr (omega arith)) (inr (omega arith))
+            (familied-put ps t (4 + 6 * n ps) R b₀ (inl (omega arith)) (inl (omega arith)) (inr (omega arith)) f),
         record {
-          places = put-view t₁ (4 + n ps * 2) L b₁ (n ps) l;
-          rungs = stays t₁ (4 + n ps * 2) L b₁ (4 + n ps * 6) (n ps * 2) (inr (omega arith)) ∙ put-view t (4 + n ps * 6) R b₀ (n ps * 2) r;
+          places = put-view t₁ (4 + 2 * n ps) L b₁ (n ps) l;
+          rungs = stays t₁ (4 + 2 * n ps) L b₁ (4 + 6 * n ps) (2 * n ps) (inr (omega arith)) ∙ put-view t (4 + 6 * n ps) R b₀ (2 * n ps) r;
         },
       )
 
@@ -180,18 +180,18 @@ piece a b c d e l x y p q f g =
 
 module _ (ps t : List ℕ) (s : Sectioned ps t) (long : length t ≡ tableWords (length ps)) where
   -- the whole, once JUMPS and the header stand
-  pub whole-table : view (4 + n ps * 11) (recordWords * jumpRoom (n ps)) t ≡ jumpCells ps → view 0 4 t ≡ header ps → t ≡ tableOf ps
+  pub whole-table : view (4 + 11 * n ps) (recordWords * jumpRoom (n ps)) t ≡ jumpCells ps → view 0 4 t ≡ header ps → t ≡ tableOf ps
   unfolding tableOf entrySections laidSections
   whole-table j h =
       let m = recordWords * jumpRoom (n ps) in
       let laid =
-      piece (4 + n ps * 6) (4 + n ps * 8) (n ps * 2) (n ps * 3 + m) (n ps * 5 + m) t _ _ (omega arith) (omega arith) (s .paths .rungs)
-      (piece (4 + n ps * 8) (4 + n ps * 11) (n ps * 3) m (n ps * 3 + m) t _ _ (omega arith) refl (s .families .groups) j) in
+      piece (4 + 6 * n ps) (4 + 8 * n ps) (2 * n ps) (3 * n ps + m) (5 * n ps + m) t _ _ (omega arith) (omega arith) (s .paths .rungs)
+      (piece (4 + 8 * n ps) (4 + 11 * n ps) (3 * n ps) m (3 * n ps + m) t _ _ (omega arith) refl (s .families .groups) j) in
       let entries =
-      piece 4 (4 + n ps) (n ps) (n ps * 5) (n ps * 6) t _ _ (omega arith) (omega arith) (s .depths)
-      (piece (4 + n ps) (4 + n ps * 2) (n ps) (n ps * 4) (n ps * 5) t _ _ (omega arith) (omega arith) (s .families .kinds)
-      (piece (4 + n ps * 2) (4 + n ps * 3) (n ps) (n ps * 3) (n ps * 4) t _ _ (omega arith) (omega arith) (s .paths .places)
-      (piece (4 + n ps * 3) (4 + n ps * 4) (n ps) (n ps * 2) (n ps * 3) t _ _ (omega arith) (omega arith) (s .orders)
-      (piece (4 + n ps * 4) (4 + n ps * 5) (n ps) (n ps) (n ps * 2) t _ _ (omega arith) (omega arith) (s .pres) (s .families .sizes))))) in
+      piece 4 (4 + n ps) (n ps) (5 * n ps) (6 * n ps) t _ _ (omega arith) (omega arith) (s .depths)
+      (piece (4 + n ps) (4 + 2 * n ps) (n ps) (4 * n ps) (5 * n ps) t _ _ (omega arith) (omega arith) (s .families .kinds)
+      (piece (4 + 2 * n ps) (4 + 3 * n ps) (n ps) (3 * n ps) (4 * n ps) t _ _ (omega arith) (omega arith) (s .paths .places)
+      (piece (4 + 3 * n ps) (4 + 4 * n ps) (n ps) (2 * n ps) (3 * n ps) t _ _ (omega arith) (omega arith) (s .orders)
+      (piece (4 + 4 * n ps) (4 + 5 * n ps) (n ps) (n ps) (2 * n ps) t _ _ (omega arith) (omega arith) (s .pres) (s .families .sizes))))) in
       sym (view-all (tableWords (n ps)) t long)
-      ∙ piece 0 4 4 (n ps * 11 + m) (tableWords (n ps)) t _ _ refl (omega arith) h (piece 4 (4 + n ps * 6) (n ps * 6) (n ps * 5 + m) (n ps * 11 + m) t _ _ (omega arith) (omega arith) entries laid)
+      ∙ piece 0 4 4 (11 * n ps + m) (tableWords (n ps)) t _ _ refl (omega arith) h (piece 4 (4 + 6 * n ps) (6 * n ps) (5 * n ps + m) (11 * n ps + m) t _ _ (omega arith) (omega arith) entries laid)

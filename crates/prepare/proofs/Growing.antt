@@ -23,29 +23,29 @@ lent-all a b n x l y e h q =
     lent-back a b l y (replicate n x) (q ∙ ap (λ k. replicate k x) z) (omega (arith, length-replicate {A = ℕ} n x))
 
 pub filled-regions : (n : ℕ) (old x y z : List ℕ) → length old ≡ 6 * n
-    → x ≡ replicate (length (midOf (n * 2) (n * 3 - n * 2) old)) 1
-    → (let one = putMid (n * 2) (n * 3 - n * 2) old x in
-    y ≡ replicate (length (midOf (n * 4) (n * 5 - n * 4) one)) 1
-    → (let two = putMid (n * 4) (n * 5 - n * 4) one y in
-    z ≡ replicate (length (midOf (n * 5) (n * 6 - n * 5) two)) 4294967295
-    → putMid (n * 5) (n * 6 - n * 5) two z ≡ put (put (put old (n * 2) (replicate n 1)) (n * 4) (replicate n 1)) (n * 5) (replicate n 4294967295)))
+    → x ≡ replicate (length (midOf (2 * n) (3 * n - 2 * n) old)) 1
+    → (let one = putMid (2 * n) (3 * n - 2 * n) old x in
+    y ≡ replicate (length (midOf (4 * n) (5 * n - 4 * n) one)) 1
+    → (let two = putMid (4 * n) (5 * n - 4 * n) one y in
+    z ≡ replicate (length (midOf (5 * n) (6 * n - 5 * n) two)) 4294967295
+    → putMid (5 * n) (6 * n - 5 * n) two z ≡ put (put (put old (2 * n) (replicate n 1)) (4 * n) (replicate n 1)) (5 * n) (replicate n 4294967295)))
 filled-regions n old x y z room p q r =
     let ones = length-replicate {A = ℕ} n 1 in
-    let first = lent-all (n * 2) (n * 3) n 1 old x (omega arith) (omega arith) p in
-    let long = ap length first ∙ put-length old (n * 2) (replicate n 1) (omega arith) in
-    let second = lent-all (n * 4) (n * 5) n 1 _ y (omega arith) (omega (arith, long)) q in
-    let long-2 = ap length second ∙ put-length _ (n * 4) (replicate n 1) (omega (arith, long)) in
-    lent-all (n * 5) (n * 6) n 4294967295 _ z (omega arith) (omega (arith, long, long-2)) r
-    ∙ ap (λ l. put l (n * 5) (replicate n 4294967295)) (second ∙ ap (λ l. put l (n * 4) (replicate n 1)) first)
+    let first = lent-all (2 * n) (3 * n) n 1 old x (omega arith) (omega arith) p in
+    let long = ap length first ∙ put-length old (2 * n) (replicate n 1) (omega arith) in
+    let second = lent-all (4 * n) (5 * n) n 1 _ y (omega arith) (omega (arith, long)) q in
+    let long-2 = ap length second ∙ put-length _ (4 * n) (replicate n 1) (omega (arith, long)) in
+    lent-all (5 * n) (6 * n) n 4294967295 _ z (omega arith) (omega (arith, long, long-2)) r
+    ∙ ap (λ l. put l (5 * n) (replicate n 4294967295)) (second ∙ ap (λ l. put l (4 * n) (replicate n 1)) first)
 
 -- what hangs below each entry from position i on, measured in the space; the other regions as they were
 pub record Growing (ps : List ℕ) (n i : ℕ) (old space : List ℕ) : Type 0 where
   pub wide : length space ≡ 6 * n
-  pub sums : Hung ps sizeOf (λ k. n * 2 + k) i space
-  pub highs : Hung ps heightOf (λ k. n * 4 + k) i space
-  pub longs : Hung ps (longOf ps) (λ k. n * 5 + k) i space
-  pub front : view 0 (n * 2) space ≡ view 0 (n * 2) old
-  pub aboves : view (n * 3) n space ≡ view (n * 3) n old
+  pub sums : Hung ps sizeOf (λ k. 2 * n + k) i space
+  pub highs : Hung ps heightOf (λ k. 4 * n + k) i space
+  pub longs : Hung ps (longOf ps) (λ k. 5 * n + k) i space
+  pub front : view 0 (2 * n) space ≡ view 0 (2 * n) old
+  pub aboves : view (3 * n) n space ≡ view (3 * n) n old
 
 -- the regions as they are at the start
 module _ (n : ℕ) (base : List ℕ) (room : length base ≡ 6 * n) where
@@ -62,61 +62,61 @@ module _ (n : ℕ) (base : List ℕ) (room : length base ≡ 6 * n) where
   tops-long = length-replicate {A = ℕ} n 4294967295
 
   abbrev first : List ℕ
-  first = put base (n * 2) ones
+  first = put base (2 * n) ones
 
   abbrev second : List ℕ
-  second = put first (n * 4) ones
+  second = put first (4 * n) ones
 
-  fits : n * 2 + length ones ≤ length base
+  fits : 2 * n + length ones ≤ length base
   fits = omega (arith, ones-long)
 
-  fits-2 : n * 4 + length ones ≤ length first
-  fits-2 = omega (arith, ones-long, put-length base (n * 2) ones fits)
+  fits-2 : 4 * n + length ones ≤ length first
+  fits-2 = omega (arith, ones-long, put-length base (2 * n) ones fits)
 
-  fits-3 : n * 5 + length tops ≤ length second
-  fits-3 = omega (arith, tops-long, put-length first (n * 4) ones fits-2, put-length base (n * 2) ones fits)
+  fits-3 : 5 * n + length tops ≤ length second
+  fits-3 = omega (arith, tops-long, put-length first (4 * n) ones fits-2, put-length base (2 * n) ones fits)
 
-  module _ (space : List ℕ) (q : space ≡ put second (n * 5) tops) where
+  module _ (space : List ℕ) (q : space ≡ put second (5 * n) tops) where
     pub started-wide : length space ≡ 6 * n
-    started-wide = ap length q ∙ put-length second (n * 5) tops fits-3 ∙ put-length first (n * 4) ones fits-2 ∙ put-length base (n * 2) ones fits ∙ room
+    started-wide = ap length q ∙ put-length second (5 * n) tops fits-3 ∙ put-length first (4 * n) ones fits-2 ∙ put-length base (2 * n) ones fits ∙ room
 
-    pub started-front : view 0 (n * 2) space ≡ view 0 (n * 2) base
-    started-front = rw q (put-before second (n * 5) tops fits-3 0 (n * 2) (omega arith) ∙ put-before first (n * 4) ones fits-2 0 (n * 2) (omega arith) ∙ put-before base (n * 2) ones fits 0 (n * 2) (omega arith))
+    pub started-front : view 0 (2 * n) space ≡ view 0 (2 * n) base
+    started-front = rw q (put-before second (5 * n) tops fits-3 0 (2 * n) (omega arith) ∙ put-before first (4 * n) ones fits-2 0 (2 * n) (omega arith) ∙ put-before base (2 * n) ones fits 0 (2 * n) (omega arith))
 
-    pub started-aboves : view (n * 3) n space ≡ view (n * 3) n base
-    started-aboves = rw q (put-before second (n * 5) tops fits-3 (n * 3) n (omega arith) ∙ put-before first (n * 4) ones fits-2 (n * 3) n (omega arith) ∙ put-behind base (n * 2) ones fits (n * 3) n (omega (arith, ones-long)))
+    pub started-aboves : view (3 * n) n space ≡ view (3 * n) n base
+    started-aboves = rw q (put-before second (5 * n) tops fits-3 (3 * n) n (omega arith) ∙ put-before first (4 * n) ones fits-2 (3 * n) n (omega arith) ∙ put-behind base (2 * n) ones fits (3 * n) n (omega (arith, ones-long)))
 
-    pub rebased : (ps : List ℕ) → Aboves ps (view (n * 3) n base) → Aboves ps (view (n * 3) n space)
+    pub rebased : (ps : List ℕ) → Aboves ps (view (3 * n) n base) → Aboves ps (view (3 * n) n space)
     rebased ps d = record { few = d .few; tree = d .tree; aboves = started-aboves ∙ d .aboves }
 
     filled-word : (a x : ℕ) → view a n space ≡ replicate n x → (k : ℕ) → k < n → getD space (a + k) 0 ≡ x
     filled-word a x z k h = view-at a n space k (a + k) h refl ∙ ap (λ w. getD w k 0) z ∙ getD-replicate n k x 0 h
 
-    size-one : (k : ℕ) → k < n → getD space (n * 2 + k) 0 ≡ 1
-    size-one = filled-word (n * 2) 1 (rw q (put-before second (n * 5) tops fits-3 (n * 2) n (omega arith) ∙ put-before first (n * 4) ones fits-2 (n * 2) n (omega arith) ∙ put-view base (n * 2) ones fits n ones-long))
+    size-one : (k : ℕ) → k < n → getD space (2 * n + k) 0 ≡ 1
+    size-one = filled-word (2 * n) 1 (rw q (put-before second (5 * n) tops fits-3 (2 * n) n (omega arith) ∙ put-before first (4 * n) ones fits-2 (2 * n) n (omega arith) ∙ put-view base (2 * n) ones fits n ones-long))
 
-    height-one : (k : ℕ) → k < n → getD space (n * 4 + k) 0 ≡ 1
-    height-one = filled-word (n * 4) 1 (rw q (put-before second (n * 5) tops fits-3 (n * 4) n (omega arith) ∙ put-view first (n * 4) ones fits-2 n ones-long))
+    height-one : (k : ℕ) → k < n → getD space (4 * n + k) 0 ≡ 1
+    height-one = filled-word (4 * n) 1 (rw q (put-before second (5 * n) tops fits-3 (4 * n) n (omega arith) ∙ put-view first (4 * n) ones fits-2 n ones-long))
 
-    long-none : (k : ℕ) → k < n → getD space (n * 5 + k) 0 ≡ topMark
-    long-none = filled-word (n * 5) topMark (rw q (put-view second (n * 5) tops fits-3 n tops-long))
+    long-none : (k : ℕ) → k < n → getD space (5 * n + k) 0 ≡ topMark
+    long-none = filled-word (5 * n) topMark (rw q (put-view second (5 * n) tops fits-3 n tops-long))
 
-    pub grow-none : (ps : List ℕ) → Aboves ps (view (n * 3) n space) → n ≡ length ps → Growing ps n n space space
+    pub grow-none : (ps : List ℕ) → Aboves ps (view (3 * n) n space) → n ≡ length ps → Growing ps n n space space
     unfolding forestSize forestHeight tallest Option·elim
     grow-none ps d e =
-        let z : length (view (n * 3) n space) ≡ n = aboves-length ps (view (n * 3) n space) d ∙ sym e in
+        let z : length (view (3 * n) n space) ≡ n = aboves-length ps (view (3 * n) n space) d ∙ sym e in
         record {
           wide = started-wide;
-          sums = rw z at (hung-none ps (view (n * 3) n space) d sizeOf (λ k. n * 2 + k) space (λ k h. size-one k (omega (arith, e))));
-          highs = rw z at (hung-none ps (view (n * 3) n space) d heightOf (λ k. n * 4 + k) space (λ k h. height-one k (omega (arith, e))));
-          longs = rw z at (hung-none ps (view (n * 3) n space) d (longOf ps) (λ k. n * 5 + k) space (λ k h. long-none k (omega (arith, e))));
+          sums = rw z at (hung-none ps (view (3 * n) n space) d sizeOf (λ k. 2 * n + k) space (λ k h. size-one k (omega (arith, e))));
+          highs = rw z at (hung-none ps (view (3 * n) n space) d heightOf (λ k. 4 * n + k) space (λ k h. height-one k (omega (arith, e))));
+          longs = rw z at (hung-none ps (view (3 * n) n space) d (longOf ps) (λ k. 5 * n + k) space (λ k h. long-none k (omega (arith, e))));
           front = refl;
           aboves = refl;
         }
 
-module _ (ps old : List ℕ) (n : ℕ) (d : Aboves ps (view (n * 3) n old)) (e : n ≡ length ps) where
+module _ (ps old : List ℕ) (n : ℕ) (d : Aboves ps (view (3 * n) n old)) (e : n ≡ length ps) where
   abbrev above : List ℕ
-  above = view (n * 3) n old
+  above = view (3 * n) n old
 
   all : length above ≡ n
   all = aboves-length ps above d ∙ sym e
@@ -129,99 +129,99 @@ module _ (ps old : List ℕ) (n : ℕ) (d : Aboves ps (view (n * 3) n old)) (e :
     low : at < length above
     low = omega (arith, all)
 
-    pub over-word : getD space (n * 3 + at) 0 ≡ over
-    over-word = view-at (n * 3) n space at (n * 3 + at) h refl ∙ ap (λ l. getD l at 0) (g .aboves)
+    pub over-word : getD space (3 * n + at) 0 ≡ over
+    over-word = view-at (3 * n) n space at (3 * n + at) h refl ∙ ap (λ l. getD l at 0) (g .aboves)
 
     pub over-low : over < at
     over-low = over-before ps above d at b low
 
     abbrev sum : ℕ
-    sum = getD space (n * 2 + over) 0 + getD space (n * 2 + at) 0
+    sum = getD space (2 * n + over) 0 + getD space (2 * n + at) 0
 
     pub sum-small : sum ≤ 1048576
-    sum-small = sum-fits ps above d at b low i s (λ k. n * 2 + k) space (g .sums)
+    sum-small = sum-fits ps above d at b low i s (λ k. 2 * n + k) space (g .sums)
 
     abbrev counted : List ℕ
-    counted = set space (n * 2 + over) sum
+    counted = set space (2 * n + over) sum
 
     -- a word past region 2 is not touched by the sum
-    later : (k : ℕ) → n * 3 ≤ k → getD counted k 0 ≡ getD space k 0
-    later k l = getD-set-other space (n * 2 + over) k sum 0 (λ z. omega (arith, over-low))
+    later : (k : ℕ) → 3 * n ≤ k → getD counted k 0 ≡ getD space k 0
+    later k l = getD-set-other space (2 * n + over) k sum 0 (λ z. omega (arith, over-low))
 
-    heights-now : Hung ps heightOf (λ k. n * 4 + k) i counted
-    heights-now k l = later (n * 4 + k) (omega arith) ∙ g .highs k l
+    heights-now : Hung ps heightOf (λ k. 4 * n + k) i counted
+    heights-now k l = later (4 * n + k) (omega arith) ∙ g .highs k l
 
-    longs-now : Hung ps (longOf ps) (λ k. n * 5 + k) i counted
-    longs-now k l = later (n * 5 + k) (omega arith) ∙ g .longs k l
+    longs-now : Hung ps (longOf ps) (λ k. 5 * n + k) i counted
+    longs-now k l = later (5 * n + k) (omega arith) ∙ g .longs k l
 
-    pub rise-small : getD counted (n * 4 + at) 0 ≤ 1048576
-    rise-small = rise-fits ps above d at b low i s (λ k. n * 4 + k) counted heights-now
+    pub rise-small : getD counted (4 * n + at) 0 ≤ 1048576
+    rise-small = rise-fits ps above d at b low i s (λ k. 4 * n + k) counted heights-now
 
     -- every word of region 2 is right after the sum, in a space that has the same there
-    sums-on : (new : List ℕ) → ((k : ℕ) → k < length ps → getD new (n * 2 + k) 0 ≡ getD counted (n * 2 + k) 0) → Hung ps sizeOf (λ k. n * 2 + k) at new
+    sums-on : (new : List ℕ) → ((k : ℕ) → k < length ps → getD new (2 * n + k) 0 ≡ getD counted (2 * n + k) 0) → Hung ps sizeOf (λ k. 2 * n + k) at new
     sums-on new same =
-        hung-more ps above d at b low i s sizeOf (λ k. n * 2 + k) space new (g .sums)
-        (λ k l q. same k l ∙ getD-set-other space (n * 2 + over) (n * 2 + k) sum 0 (λ z. q (omega arith)))
-        (same over (omega (arith, over-low, e)) ∙ getD-set-same space (n * 2 + over) sum 0 (omega (arith, g .wide, over-low)) ∙ sum-is ps above d at b low i s (λ k. n * 2 + k) space (g .sums))
+        hung-more ps above d at b low i s sizeOf (λ k. 2 * n + k) space new (g .sums)
+        (λ k l q. same k l ∙ getD-set-other space (2 * n + over) (2 * n + k) sum 0 (λ z. q (omega arith)))
+        (same over (omega (arith, over-low, e)) ∙ getD-set-same space (2 * n + over) sum 0 (omega (arith, g .wide, over-low)) ∙ sum-is ps above d at b low i s (λ k. 2 * n + k) space (g .sums))
 
-    grow-short : getD counted (n * 4 + at) 0 + 1 < getD counted (n * 4 + over) 0 → Growing ps n at old counted
+    grow-short : getD counted (4 * n + at) 0 + 1 < getD counted (4 * n + over) 0 → Growing ps n at old counted
     grow-short w =
-        let (x, y) = shorter ps above d at b low i s (λ k. n * 4 + k) counted heights-now w in
+        let (x, y) = shorter ps above d at b low i s (λ k. 4 * n + k) counted heights-now w in
         record {
-          wide = length-set space (n * 2 + over) sum ∙ g .wide;
+          wide = length-set space (2 * n + over) sum ∙ g .wide;
           sums = sums-on counted (λ k l. refl);
-          highs = hung-more ps above d at b low i s heightOf (λ k. n * 4 + k) counted counted heights-now (λ k l q. refl) x;
-          longs = hung-more ps above d at b low i s (longOf ps) (λ k. n * 5 + k) counted counted longs-now (λ k l q. refl) (longs-now over (omega (arith, over-low, e)) ∙ y);
-          front = view-past 0 (n * 2) space (n * 2 + over) sum (omega arith) ∙ g .front;
-          aboves = view-before (n * 3) n space (n * 2 + over) sum (omega (arith, over-low)) ∙ g .aboves;
+          highs = hung-more ps above d at b low i s heightOf (λ k. 4 * n + k) counted counted heights-now (λ k l q. refl) x;
+          longs = hung-more ps above d at b low i s (longOf ps) (λ k. 5 * n + k) counted counted longs-now (λ k l q. refl) (longs-now over (omega (arith, over-low, e)) ∙ y);
+          front = view-past 0 (2 * n) space (2 * n + over) sum (omega arith) ∙ g .front;
+          aboves = view-before (3 * n) n space (2 * n + over) sum (omega (arith, over-low)) ∙ g .aboves;
         }
 
-    grow-tall : getD counted (n * 4 + over) 0 ≤ getD counted (n * 4 + at) 0 + 1
-        → Growing ps n at old (set (set counted (n * 4 + over) (getD counted (n * 4 + at) 0 + 1)) (n * 5 + over) at)
+    grow-tall : getD counted (4 * n + over) 0 ≤ getD counted (4 * n + at) 0 + 1
+        → Growing ps n at old (set (set counted (4 * n + over) (getD counted (4 * n + at) 0 + 1)) (5 * n + over) at)
     grow-tall w =
-        let x = getD counted (n * 4 + at) 0 + 1 in
-        let one = set counted (n * 4 + over) x in
-        let two = set one (n * 5 + over) at in
-        let (y, z) = taller ps above d at b low i s (λ k. n * 4 + k) counted heights-now w in
-        let wide-1 : length counted ≡ 6 * n = length-set space (n * 2 + over) sum ∙ g .wide in
-        let wide-2 : length one ≡ 6 * n = length-set counted (n * 4 + over) x ∙ wide-1 in
+        let x = getD counted (4 * n + at) 0 + 1 in
+        let one = set counted (4 * n + over) x in
+        let two = set one (5 * n + over) at in
+        let (y, z) = taller ps above d at b low i s (λ k. 4 * n + k) counted heights-now w in
+        let wide-1 : length counted ≡ 6 * n = length-set space (2 * n + over) sum ∙ g .wide in
+        let wide-2 : length one ≡ 6 * n = length-set counted (4 * n + over) x ∙ wide-1 in
         record {
-          wide = length-set one (n * 5 + over) at ∙ wide-2;
-          sums = sums-on two (λ k l. getD-set-other one (n * 5 + over) (n * 2 + k) at 0 (λ q. omega (arith, e)) ∙ getD-set-other counted (n * 4 + over) (n * 2 + k) x 0 (λ q. omega (arith, e)));
-          highs = hung-more ps above d at b low i s heightOf (λ k. n * 4 + k) counted two heights-now
-              (λ k l q. getD-set-other one (n * 5 + over) (n * 4 + k) at 0 (λ r. omega (arith, e)) ∙ getD-set-other counted (n * 4 + over) (n * 4 + k) x 0 (λ r. q (omega arith)))
-              (getD-set-other one (n * 5 + over) (n * 4 + over) at 0 (λ r. omega (arith, over-low)) ∙ getD-set-same counted (n * 4 + over) x 0 (omega (arith, wide-1, over-low)) ∙ y);
-          longs = hung-more ps above d at b low i s (longOf ps) (λ k. n * 5 + k) counted two longs-now
-              (λ k l q. getD-set-other one (n * 5 + over) (n * 5 + k) at 0 (λ r. q (omega arith)) ∙ getD-set-other counted (n * 4 + over) (n * 5 + k) x 0 (λ r. omega (arith, over-low)))
-              (getD-set-same one (n * 5 + over) at 0 (omega (arith, wide-2, over-low)) ∙ z);
-          front = view-past 0 (n * 2) one (n * 5 + over) at (omega arith) ∙ view-past 0 (n * 2) counted (n * 4 + over) x (omega arith) ∙ view-past 0 (n * 2) space (n * 2 + over) sum (omega arith) ∙ g .front;
-          aboves = view-past (n * 3) n one (n * 5 + over) at (omega arith) ∙ view-past (n * 3) n counted (n * 4 + over) x (omega arith) ∙ view-before (n * 3) n space (n * 2 + over) sum (omega (arith, over-low)) ∙ g .aboves;
+          wide = length-set one (5 * n + over) at ∙ wide-2;
+          sums = sums-on two (λ k l. getD-set-other one (5 * n + over) (2 * n + k) at 0 (λ q. omega (arith, e)) ∙ getD-set-other counted (4 * n + over) (2 * n + k) x 0 (λ q. omega (arith, e)));
+          highs = hung-more ps above d at b low i s heightOf (λ k. 4 * n + k) counted two heights-now
+              (λ k l q. getD-set-other one (5 * n + over) (4 * n + k) at 0 (λ r. omega (arith, e)) ∙ getD-set-other counted (4 * n + over) (4 * n + k) x 0 (λ r. q (omega arith)))
+              (getD-set-other one (5 * n + over) (4 * n + over) at 0 (λ r. omega (arith, over-low)) ∙ getD-set-same counted (4 * n + over) x 0 (omega (arith, wide-1, over-low)) ∙ y);
+          longs = hung-more ps above d at b low i s (longOf ps) (λ k. 5 * n + k) counted two longs-now
+              (λ k l q. getD-set-other one (5 * n + over) (5 * n + k) at 0 (λ r. q (omega arith)) ∙ getD-set-other counted (4 * n + over) (5 * n + k) x 0 (λ r. omega (arith, over-low)))
+              (getD-set-same one (5 * n + over) at 0 (omega (arith, wide-2, over-low)) ∙ z);
+          front = view-past 0 (2 * n) one (5 * n + over) at (omega arith) ∙ view-past 0 (2 * n) counted (4 * n + over) x (omega arith) ∙ view-past 0 (2 * n) space (2 * n + over) sum (omega arith) ∙ g .front;
+          aboves = view-past (3 * n) n one (5 * n + over) at (omega arith) ∙ view-past (3 * n) n counted (4 * n + over) x (omega arith) ∙ view-before (3 * n) n space (2 * n + over) sum (omega (arith, over-low)) ∙ g .aboves;
         }
 
     -- by what the height above is
-    pub grow : (p : ℕ) (mid new : List ℕ) → p ≡ over → mid ≡ set space (n * 2 + p) (getD space (n * 2 + p) 0 + getD space (n * 2 + at) 0)
-        → (getD mid (n * 4 + p) 0 ≤ getD mid (n * 4 + at) 0 + 1 → new ≡ set (set mid (n * 4 + p) (getD mid (n * 4 + at) 0 + 1)) (n * 5 + p) at)
-        → (getD mid (n * 4 + at) 0 + 1 < getD mid (n * 4 + p) 0 → new ≡ mid)
+    pub grow : (p : ℕ) (mid new : List ℕ) → p ≡ over → mid ≡ set space (2 * n + p) (getD space (2 * n + p) 0 + getD space (2 * n + at) 0)
+        → (getD mid (4 * n + p) 0 ≤ getD mid (4 * n + at) 0 + 1 → new ≡ set (set mid (4 * n + p) (getD mid (4 * n + at) 0 + 1)) (5 * n + p) at)
+        → (getD mid (4 * n + at) 0 + 1 < getD mid (4 * n + p) 0 → new ≡ mid)
         → Growing ps n at old new
-    grow p mid new q m tall short = go (decLe (getD mid (n * 4 + p) 0) (getD mid (n * 4 + at) 0 + 1))
+    grow p mid new q m tall short = go (decLe (getD mid (4 * n + p) 0) (getD mid (4 * n + at) 0 + 1))
       where
         is : mid ≡ counted
-        is = m ∙ ap (λ k. set space (n * 2 + k) (getD space (n * 2 + k) 0 + getD space (n * 2 + at) 0)) q
+        is = m ∙ ap (λ k. set space (2 * n + k) (getD space (2 * n + k) 0 + getD space (2 * n + at) 0)) q
 
-        go : Dec (getD mid (n * 4 + p) 0 ≤ getD mid (n * 4 + at) 0 + 1) → Growing ps n at old new
+        go : Dec (getD mid (4 * n + p) 0 ≤ getD mid (4 * n + at) 0 + 1) → Growing ps n at old new
         go (yes w) = rw (tall w) (rw (is, q) (grow-tall (rw (is, q) at w)))
         go (no w) =
-            let low : getD mid (n * 4 + at) 0 + 1 < getD mid (n * 4 + p) 0 = omega arith in
+            let low : getD mid (4 * n + at) 0 + 1 < getD mid (4 * n + p) 0 = omega arith in
             rw (short low) (rw is (grow-short (rw (is, q) at low)))
 
   -- at the end
-  pub grown : (base : List ℕ) → view 0 (n * 2) old ≡ view 0 (n * 2) base → view (n * 3) n old ≡ view (n * 3) n base → (space : List ℕ) (i : ℕ) → i ≤ 1 → Growing ps n i old space → Grown ps n base space
+  pub grown : (base : List ℕ) → view 0 (2 * n) old ≡ view 0 (2 * n) base → view (3 * n) n old ≡ view (3 * n) n base → (space : List ℕ) (i : ℕ) → i ≤ 1 → Growing ps n i old space → Grown ps n base space
   unfolding longPosition
   grown base f a space i b g =
       record {
         front = g .front ∙ f;
-        sizes = ap (λ m. view (n * 2) m space) e ∙ hung-map ps above d (size ps) sizeOf (λ v. refl) i (n * 2) space b (omega (arith, g .wide, e)) (g .sums);
+        sizes = ap (λ m. view (2 * n) m space) e ∙ hung-map ps above d (size ps) sizeOf (λ v. refl) i (2 * n) space b (omega (arith, g .wide, e)) (g .sums);
         aboves = g .aboves ∙ a;
-        heights = ap (λ m. view (n * 4) m space) e ∙ hung-map ps above d (height ps) heightOf (λ v. refl) i (n * 4) space b (omega (arith, g .wide, e)) (g .highs);
-        longs = ap (λ m. view (n * 5) m space) e ∙ hung-map ps above d (longPosition ps) (longOf ps) (λ v. refl) i (n * 5) space b (omega (arith, g .wide, e)) (g .longs);
+        heights = ap (λ m. view (4 * n) m space) e ∙ hung-map ps above d (height ps) heightOf (λ v. refl) i (4 * n) space b (omega (arith, g .wide, e)) (g .highs);
+        longs = ap (λ m. view (5 * n) m space) e ∙ hung-map ps above d (longPosition ps) (longOf ps) (λ v. refl) i (5 * n) space b (omega (arith, g .wide, e)) (g .longs);
       }

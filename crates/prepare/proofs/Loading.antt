@@ -37,20 +37,20 @@ module _ (ps space : List ℕ) (w : Walked ps space) where
     wide : length ys ≡ n
     wide = array-length ps (w .few) (w .tree) (abovePosition ps) ys f
 
-    over-is : putMid (n * 3) (n * 4 - n * 3) space ys ≡ put space (n * 3) ys
-    over-is = lent-back (n * 3) (n * 4) space ys ys refl (omega (arith, wide))
+    over-is : putMid (3 * n) (4 * n - 3 * n) space ys ≡ put space (3 * n) ys
+    over-is = lent-back (3 * n) (4 * n) space ys ys refl (omega (arith, wide))
 
-    pub over-walked : Walked ps (putMid (n * 3) (n * 4 - n * 3) space ys)
-    over-walked = rw over-is (walked-put ps space (n * 3) ys (omega arith) (omega (arith, wide)) w)
+    pub over-walked : Walked ps (putMid (3 * n) (4 * n - 3 * n) space ys)
+    over-walked = rw over-is (walked-put ps space (3 * n) ys (omega arith) (omega (arith, wide)) w)
 
-    pub over-aboves : Aboves ps (view (n * 3) n (putMid (n * 3) (n * 4 - n * 3) space ys))
-    over-aboves = record { few = w .few; tree = w .tree; aboves = rw over-is (put-view space (n * 3) ys (omega (arith, w .room, wide)) n wide ∙ f) }
+    pub over-aboves : Aboves ps (view (3 * n) n (putMid (3 * n) (4 * n - 3 * n) space ys))
+    over-aboves = record { few = w .few; tree = w .tree; aboves = rw over-is (put-view space (3 * n) ys (omega (arith, w .room, wide)) n wide ∙ f) }
 
   -- the regions that are measured from it
-  pub measured : (new : List ℕ) → Aboves ps (view (n * 3) n space) → length new ≡ length space → Grown ps n space new → Measured ps new
+  pub measured : (new : List ℕ) → Aboves ps (view (3 * n) n space) → length new ≡ length space → Grown ps n space new → Measured ps new
   measured new a same g =
-      let kept : (b c : ℕ) → b + c ≤ n * 2 → view b c new ≡ view b c space
-      = λ b c h. front-view (n * 2) b c new h (omega (arith, same, w .room)) ∙ ap (view b c) (g .front) ∙ sym (front-view (n * 2) b c space h (omega (arith, w .room))) in
+      let kept : (b c : ℕ) → b + c ≤ 2 * n → view b c new ≡ view b c space
+      = λ b c h. front-view (2 * n) b c new h (omega (arith, same, w .room)) ∙ ap (view b c) (g .front) ∙ sym (front-view (2 * n) b c space h (omega (arith, w .room))) in
       record {
         walked = record { few = w .few; tree = w .tree; room = same ∙ w .room; orders = kept 0 n (omega arith) ∙ w .orders; depths = kept n n (omega arith) ∙ w .depths };
         sizes = g .sizes;

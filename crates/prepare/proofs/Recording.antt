@@ -37,27 +37,27 @@ module _ (ps : List ℕ) (ladders : ℕ) (t : List ℕ) (r : Reached ps ladders 
   abbrev n : ℕ
   n = length ps
 
-  pub reaching-of : Reaching ps (midOf (4 + n * 2) (4 + n * 2 + n - (4 + n * 2)) t) (midOf ladders (ladders + n * 2 - ladders) t)
+  pub reaching-of : Reaching ps (midOf (4 + 2 * n) (4 + 2 * n + n - (4 + 2 * n)) t) (midOf ladders (ladders + 2 * n - ladders) t)
   reaching-of = record {
     few = r .few;
     tree = r .tree;
-    places-are = lent (4 + n * 2) (4 + n * 2 + n) n t _ refl (r .places);
-    rungs-are = lent ladders (ladders + n * 2) (n * 2) t _ refl (r .rungs);
+    places-are = lent (4 + 2 * n) (4 + 2 * n + n) n t _ refl (r .places);
+    rungs-are = lent ladders (ladders + 2 * n) (2 * n) t _ refl (r .rungs);
   }
 
   pub depth-word : (v : ℕ) → v < n → getD t (4 + v) 0 ≡ depth ps v
   depth-word v h = view-at 4 n t v (4 + v) h refl ∙ ap (λ l. getD l v 0) (r .depths) ∙ below-at n (depth ps) 0 v h
 
   -- words behind all of it leave it
-  pub reached-put : (a : ℕ) (x : List ℕ) → 4 + n * 3 ≤ a → ladders + n * 2 ≤ a → a + length x ≤ length t → Reached ps ladders (put t a x)
+  pub reached-put : (a : ℕ) (x : List ℕ) → 4 + 3 * n ≤ a → ladders + 2 * n ≤ a → a + length x ≤ length t → Reached ps ladders (put t a x)
   reached-put a x h k b = record {
     few = r .few;
     tree = r .tree;
     long = omega (arith, put-length t a x b, r .long);
     fits = omega (arith, put-length t a x b, r .fits);
     depths = stays t a x b 4 n (inl (omega arith)) ∙ r .depths;
-    places = stays t a x b (4 + n * 2) n (inl (omega arith)) ∙ r .places;
-    rungs = stays t a x b ladders (n * 2) (inl (omega arith)) ∙ r .rungs;
+    places = stays t a x b (4 + 2 * n) n (inl (omega arith)) ∙ r .places;
+    rungs = stays t a x b ladders (2 * n) (inl (omega arith)) ∙ r .rungs;
   }
 
 -- the records of the first i entries of a list
@@ -68,7 +68,7 @@ pub record Recorded (ps : List ℕ) (ladders first : ℕ) (nodes old : List ℕ)
   pub long : length table ≡ length old
   pub reached : Reached ps ladders table
 
-module _ (ps : List ℕ) (ladders first : ℕ) (nodes old : List ℕ) (room : first + 21 * length nodes ≤ length old) (a : 4 + length ps * 3 ≤ first) (b : ladders + length ps * 2 ≤ first) where
+module _ (ps : List ℕ) (ladders first : ℕ) (nodes old : List ℕ) (room : first + 21 * length nodes ≤ length old) (a : 4 + 3 * length ps ≤ first) (b : ladders + 2 * length ps ≤ first) where
   pub recorded-none : Reached ps ladders old → Recorded ps ladders first nodes old old first 0
   unfolding flatMap
   recorded-none r = record { place = omega arith; within = omega arith; laid = sym (put-none old first); long = refl; reached = r }
@@ -109,15 +109,15 @@ module _ (ps t : List ℕ) (few : length ps ≤ mostEntries) (tree : Tree ps) (s
   small : length ps ≤ topMark
   small = omega arith
 
-  pub jumping-of : Jumping ps (midOf (4 + length ps * 3) (4 + length ps * 4 - (4 + length ps * 3)) t) (midOf (4 + length ps) (4 + length ps * 2 - (4 + length ps)) t)
+  pub jumping-of : Jumping ps (midOf (4 + 3 * length ps) (4 + 4 * length ps - (4 + 3 * length ps)) t) (midOf (4 + length ps) (4 + 2 * length ps - (4 + length ps)) t)
   jumping-of = record {
     few = few;
     tree = tree;
-    order-is = lent (4 + length ps * 3) (4 + length ps * 4) (length ps) t _ (omega arith) (s .orders);
-    kinds-are = lent (4 + length ps) (4 + length ps * 2) (length ps) t _ (omega arith) (s .families .kinds);
+    order-is = lent (4 + 3 * length ps) (4 + 4 * length ps) (length ps) t _ (omega arith) (s .orders);
+    kinds-are = lent (4 + length ps) (4 + 2 * length ps) (length ps) t _ (omega arith) (s .families .kinds);
   }
 
-  pub reached-of : Reached ps (4 + length ps * 6) t
+  pub reached-of : Reached ps (4 + 6 * length ps) t
   reached-of = record { few = few; tree = tree; long = omega arith; fits = omega arith; depths = s .depths; places = s .paths .places; rungs = s .paths .rungs }
 
   pub nodes-few : 21 * length (jumpNodes groupLimit ps) ≤ recordWords * jumpRoom (length ps)
@@ -131,22 +131,22 @@ module _ (ps t : List ℕ) (few : length ps ≤ mostEntries) (tree : Tree ps) (s
 
   -- the list as it is lent from region 2
   pub listed-lent : (space cells : List ℕ) (jumps : ℕ) → length space ≡ 6 * length ps → length cells ≡ length ps → jumps ≡ length (jumpNodes groupLimit ps) → Listed ps cells
-      → midOf (length ps * 2) (length ps * 2 + jumps - length ps * 2) (putMid (length ps * 2) (length ps * 3 - length ps * 2) space cells) ≡ jumpNodes groupLimit ps
+      → midOf (2 * length ps) (2 * length ps + jumps - 2 * length ps) (putMid (2 * length ps) (3 * length ps - 2 * length ps) space cells) ≡ jumpNodes groupLimit ps
   unfolding Listed view
   listed-lent space cells jumps ls lc e l =
-      let z : length ps * 2 + 0 ≡ length ps * 2 = omega arith in
+      let z : 2 * length ps + 0 ≡ 2 * length ps = omega arith in
       let f = nodes-few in
       let less : jumps ≤ length ps = omega (arith, jumps-few ps small tree groupLimit) in
-      lent (length ps * 2) (length ps * 2 + jumps) jumps _ _ refl
-      (ap (view (length ps * 2) jumps) (lent-back (length ps * 2) (length ps * 3) space cells cells refl (omega arith))
-      ∙ ap (λ a. view a jumps (put space (length ps * 2) cells)) (sym z)
-      ∙ put-inside space (length ps * 2) cells (omega arith) 0 jumps (omega arith)
+      lent (2 * length ps) (2 * length ps + jumps) jumps _ _ refl
+      (ap (view (2 * length ps) jumps) (lent-back (2 * length ps) (3 * length ps) space cells cells refl (omega arith))
+      ∙ ap (λ a. view a jumps (put space (2 * length ps) cells)) (sym z)
+      ∙ put-inside space (2 * length ps) cells (omega arith) 0 jumps (omega arith)
       ∙ ap (λ k. take k cells) e
       ∙ l)
 
   -- JUMPS wiped, and what the records then ask
   abbrev first : ℕ
-  first = 4 + length ps * 11
+  first = 4 + 11 * length ps
 
   abbrev zeros : List ℕ
   zeros = replicate (recordWords * jumpRoom (length ps)) 0
@@ -160,10 +160,10 @@ module _ (ps t : List ℕ) (few : length ps ≤ mostEntries) (tree : Tree ps) (s
       lent-back first (length t) t cells zeros (e ∙ ap (λ k. replicate k 0) z) (omega (arith, zeros-wide))
 
   pub ready : (t₁ nodes : List ℕ) → t₁ ≡ put t first zeros → nodes ≡ jumpNodes groupLimit ps
-      → Reached ps (4 + length ps * 6) t₁ × (4 + length ps * 3 ≤ first) × (4 + length ps * 6 + length ps * 2 ≤ first) × (first + recordWords * length nodes ≤ length t₁) × ((i : ℕ) → i < length nodes → getD nodes i 0 < length ps)
+      → Reached ps (4 + 6 * length ps) t₁ × (4 + 3 * length ps ≤ first) × (4 + 6 * length ps + 2 * length ps ≤ first) × (first + recordWords * length nodes ≤ length t₁) × ((i : ℕ) → i < length nodes → getD nodes i 0 < length ps)
   ready t₁ nodes e f =
       let b : first + length zeros ≤ length t = omega (arith, zeros-wide) in (
-        rw e (reached-put ps (4 + length ps * 6) t reached-of first zeros (omega arith) (omega arith) b),
+        rw e (reached-put ps (4 + 6 * length ps) t reached-of first zeros (omega arith) (omega arith) b),
         omega arith,
         omega arith,
         omega (arith, ap length e, ap length f, put-length t first zeros b, nodes-few),

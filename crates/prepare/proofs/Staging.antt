@@ -20,7 +20,7 @@ module _ (ps : List ℕ) where
   n = length ps
 
   -- words put behind what a stage holds leave it
-  pub walked-put : (space : List ℕ) (a : ℕ) (x : List ℕ) → n * 2 ≤ a → a + length x ≤ n * 6 → Walked ps space → Walked ps (put space a x)
+  pub walked-put : (space : List ℕ) (a : ℕ) (x : List ℕ) → 2 * n ≤ a → a + length x ≤ 6 * n → Walked ps space → Walked ps (put space a x)
   walked-put space a x h b w =
       let fits : a + length x ≤ length space = omega (arith, w .room) in
       record {
@@ -47,17 +47,17 @@ placing ps paths space cells p =
     record { walked = record { few = u .few; tree = u .tree; room = u .room; orders = u .orders; depths = u .depths }; places = p .places-are }
 
 module _ (ps space : List ℕ) (m : Measured ps space) where
-  pub families-of : Families ps (midOf 0 (length ps - 0) space) (midOf (length ps * 2) (length ps * 3 - length ps * 2) space)
+  pub families-of : Families ps (midOf 0 (length ps - 0) space) (midOf (2 * length ps) (3 * length ps - 2 * length ps) space)
   families-of = record {
     few = m .walked .few;
     tree = m .walked .tree;
     order-is = lent 0 (length ps) (length ps) space _ (omega arith) (m .walked .orders);
-    sizes-are = lent (length ps * 2) (length ps * 3) (length ps) space _ (omega arith) (m .sizes);
+    sizes-are = lent (2 * length ps) (3 * length ps) (length ps) space _ (omega arith) (m .sizes);
   }
 
-  pub members-of : Members ps (midOf 0 (length ps - 0) space) (midOf (length ps) (length ps * 2 - length ps) space) (midOf (length ps * 2) (length ps * 3 - length ps * 2) space) (midOf (length ps * 3) (length ps * 4 - length ps * 3) space)
+  pub members-of : Members ps (midOf 0 (length ps - 0) space) (midOf (length ps) (2 * length ps - length ps) space) (midOf (2 * length ps) (3 * length ps - 2 * length ps) space) (midOf (3 * length ps) (4 * length ps - 3 * length ps) space)
   members-of = record {
     families = families-of;
-    depths = lent (length ps) (length ps * 2) (length ps) space _ (omega arith) (m .walked .depths);
-    aboves = lent (length ps * 3) (length ps * 4) (length ps) space _ (omega arith) (m .aboves);
+    depths = lent (length ps) (2 * length ps) (length ps) space _ (omega arith) (m .walked .depths);
+    aboves = lent (3 * length ps) (4 * length ps) (length ps) space _ (omega arith) (m .aboves);
   }

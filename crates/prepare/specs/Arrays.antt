@@ -51,11 +51,11 @@ pub record Aboves (ps above : List ℕ) : Type 0 where
 
 -- SIZE, HEIGHT and LONG in regions 2, 4 and 5 of a working space for n entries, and the other regions as they were
 pub record Grown (ps : List ℕ) (n : ℕ) (old new : List ℕ) : Type 0 where
-  pub front : view 0 (n * 2) new ≡ view 0 (n * 2) old
-  pub sizes : view (n * 2) n new ≡ map (size ps) (order ps)
-  pub aboves : view (n * 3) n new ≡ view (n * 3) n old
-  pub heights : view (n * 4) n new ≡ map (height ps) (order ps)
-  pub longs : view (n * 5) n new ≡ map (longPosition ps) (order ps)
+  pub front : view 0 (2 * n) new ≡ view 0 (2 * n) old
+  pub sizes : view (2 * n) n new ≡ map (size ps) (order ps)
+  pub aboves : view (3 * n) n new ≡ view (3 * n) n old
+  pub heights : view (4 * n) n new ≡ map (height ps) (order ps)
+  pub longs : view (5 * n) n new ≡ map (longPosition ps) (order ps)
 
 -- LONG and ABOVE of a list that forms one tree
 pub record Paths (ps long above : List ℕ) : Type 0 where
@@ -98,15 +98,15 @@ pub record Upright (ps space : List ℕ) : Type 0 where
   pub room : length space ≡ spaceWords (length ps)
   pub orders : view 0 (length ps) space ≡ order ps
   pub depths : view (length ps) (length ps) space ≡ map (depth ps) (order ps)
-  pub aboves : view (length ps * 3) (length ps) space ≡ map (abovePosition ps) (order ps)
-  pub heights : view (length ps * 4) (length ps) space ≡ map (height ps) (order ps)
-  pub longs : view (length ps * 5) (length ps) space ≡ map (longPosition ps) (order ps)
+  pub aboves : view (3 * length ps) (length ps) space ≡ map (abovePosition ps) (order ps)
+  pub heights : view (4 * length ps) (length ps) space ≡ map (height ps) (order ps)
+  pub longs : view (5 * length ps) (length ps) space ≡ map (longPosition ps) (order ps)
 
 -- with LADPOS by position in region 2, beside LADDERS and the number of long paths
 pub record Pathed (ps : List ℕ) (paths : ℕ) (space cells : List ℕ) : Type 0 where
   pub upright : Upright ps space
   pub paths-are : paths ≡ length (pathTops ps)
-  pub places-are : view (length ps * 2) (length ps) space ≡ map (ladPos ps) (order ps)
+  pub places-are : view (2 * length ps) (length ps) space ≡ map (ladPos ps) (order ps)
   pub rungs-are : cells ≡ ladderCells ps
 
 -- what GROUPS is laid from

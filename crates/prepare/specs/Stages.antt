@@ -25,41 +25,41 @@ pub record Walked (ps space : List ℕ) : Type 0 where
 -- regions 2 to 5: the sizes, the positions of the entries above, the heights, and the positions to which the long paths continue
 pub record Measured (ps space : List ℕ) : Type 0 where
   pub walked : Walked ps space
-  pub sizes : view (length ps * 2) (length ps) space ≡ map (size ps) (order ps)
-  pub aboves : view (length ps * 3) (length ps) space ≡ map (abovePosition ps) (order ps)
-  pub heights : view (length ps * 4) (length ps) space ≡ map (height ps) (order ps)
-  pub longs : view (length ps * 5) (length ps) space ≡ map (longPosition ps) (order ps)
+  pub sizes : view (2 * length ps) (length ps) space ≡ map (size ps) (order ps)
+  pub aboves : view (3 * length ps) (length ps) space ≡ map (abovePosition ps) (order ps)
+  pub heights : view (4 * length ps) (length ps) space ≡ map (height ps) (order ps)
+  pub longs : view (5 * length ps) (length ps) space ≡ map (longPosition ps) (order ps)
 
 -- region 2 with LADPOS by position in place of the sizes
 pub record Placing (ps space : List ℕ) : Type 0 where
   pub walked : Walked ps space
-  pub places : view (length ps * 2) (length ps) space ≡ map (ladPos ps) (order ps)
+  pub places : view (2 * length ps) (length ps) space ≡ map (ladPos ps) (order ps)
 
 -- KIND, SIZE and GROUPS
 pub record Familied (ps table : List ℕ) : Type 0 where
   pub kinds : view (4 + length ps) (length ps) table ≡ below (length ps) (kind groupLimit ps)
-  pub sizes : view (4 + length ps * 5) (length ps) table ≡ below (length ps) (size ps)
-  pub groups : view (4 + length ps * 8) (length ps * 3) table ≡ groupCells ps
+  pub sizes : view (4 + 5 * length ps) (length ps) table ≡ below (length ps) (size ps)
+  pub groups : view (4 + 8 * length ps) (3 * length ps) table ≡ groupCells ps
 
 -- LADPOS and LADDERS
 pub record Laddered (ps table : List ℕ) : Type 0 where
-  pub places : view (4 + length ps * 2) (length ps) table ≡ below (length ps) (ladPos ps)
-  pub rungs : view (4 + length ps * 6) (length ps * 2) table ≡ ladderCells ps
+  pub places : view (4 + 2 * length ps) (length ps) table ≡ below (length ps) (ladPos ps)
+  pub rungs : view (4 + 6 * length ps) (2 * length ps) table ≡ ladderCells ps
 
 -- the sections between the header and JUMPS
 pub record Sectioned (ps table : List ℕ) : Type 0 where
   pub families : Familied ps table
   pub paths : Laddered ps table
   pub depths : view 4 (length ps) table ≡ below (length ps) (depth ps)
-  pub orders : view (4 + length ps * 3) (length ps) table ≡ order ps
-  pub pres : view (4 + length ps * 4) (length ps) table ≡ below (length ps) (position ps)
+  pub orders : view (4 + 3 * length ps) (length ps) table ≡ order ps
+  pub pres : view (4 + 4 * length ps) (length ps) table ≡ below (length ps) (position ps)
 
 -- what a record is filled from: DEPTH, LADPOS, and the ladders from a cell on
 pub record Reached (ps : List ℕ) (ladders : ℕ) (table : List ℕ) : Type 0 where
   pub few : length ps ≤ mostEntries
   pub tree : Tree ps
-  pub long : 4 + length ps * 3 ≤ length table
-  pub fits : ladders + length ps * 2 ≤ length table
+  pub long : 4 + 3 * length ps ≤ length table
+  pub fits : ladders + 2 * length ps ≤ length table
   pub depths : view 4 (length ps) table ≡ below (length ps) (depth ps)
-  pub places : view (4 + length ps * 2) (length ps) table ≡ below (length ps) (ladPos ps)
-  pub rungs : view ladders (length ps * 2) table ≡ ladderCells ps
+  pub places : view (4 + 2 * length ps) (length ps) table ≡ below (length ps) (ladPos ps)
+  pub rungs : view ladders (2 * length ps) table ≡ ladderCells ps

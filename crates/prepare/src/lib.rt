@@ -41,7 +41,7 @@ pub fn prepare(parents: &[u32], table: &mut [u32], space: &mut [u32]) -> Reply
     if !countable(n) {
         return Reply { number: 1, word: 0 };
     }
-    let w = 4 + n * 11 + n / 6 * 21;
+    let w = 4 + 11 * n + 21 * (n / 6);
     if table.len() < w {
         return Reply { number: 2, word: 0 };
     }
@@ -49,7 +49,7 @@ pub fn prepare(parents: &[u32], table: &mut [u32], space: &mut [u32]) -> Reply
     if found.number != 0 {
         return found;
     }
-    let m = n * 6;
+    let m = 6 * n;
     filling::fill_table(parents, &mut table[0..w], &mut space[0..m]);
     clear(space, m);
     Reply {

@@ -40,45 +40,45 @@ pub(crate) fn above(depth: &[u32], cells: &mut [u32])
 // Each entry by itself: of size and height 1, and with no long child.
 fn alone(n: usize, space: &mut [u32])
     requires { ⌜ (length (now space) ≡ 6 * n) × (n ≤ 1048576) ⌝ }
-    ensures { λ _. ⌜ now (space .exit) ≡ put (put (put (now (space .entry)) (n * 2) (replicate n 1)) (n * 4) (replicate n 1)) (n * 5) (replicate n topMark) ⌝ }
+    ensures { λ _. ⌜ now (space .exit) ≡ put (put (put (now (space .entry)) (2 * n) (replicate n 1)) (4 * n) (replicate n 1)) (5 * n) (replicate n topMark) ⌝ }
 {
-    set_all(&mut space[n * 2..n * 3], 1);
-    set_all(&mut space[n * 4..n * 5], 1);
-    set_all(&mut space[n * 5..n * 6], 4294967295);
+    set_all(&mut space[2 * n..3 * n], 1);
+    set_all(&mut space[4 * n..5 * n], 1);
+    set_all(&mut space[5 * n..6 * n], 4294967295);
 }
 
 // The size of an entry is counted in the one above it.
 fn count(n: usize, space: &mut [u32], at: Position, over: Position)
-    requires { ⌜ (length (now space) ≡ 6 * n) × (n ≤ 1048576) × (at .0 < n) × (over .0 < n) × (getD (now space) (n * 2 + over .0) 0 + getD (now space) (n * 2 + at .0) 0 ≤ 1048576) ⌝ }
-    ensures { λ _. ⌜ now (space .exit) ≡ set (now (space .entry)) (n * 2 + over .0) (getD (now (space .entry)) (n * 2 + over .0) 0 + getD (now (space .entry)) (n * 2 + at .0) 0) ⌝ }
+    requires { ⌜ (length (now space) ≡ 6 * n) × (n ≤ 1048576) × (at .0 < n) × (over .0 < n) × (getD (now space) (2 * n + over .0) 0 + getD (now space) (2 * n + at .0) 0 ≤ 1048576) ⌝ }
+    ensures { λ _. ⌜ now (space .exit) ≡ set (now (space .entry)) (2 * n + over .0) (getD (now (space .entry)) (2 * n + over .0) 0 + getD (now (space .entry)) (2 * n + at .0) 0) ⌝ }
 {
-    space[n * 2 + over.0 as usize] += space[n * 2 + at.0 as usize];
+    space[2 * n + over.0 as usize] += space[2 * n + at.0 as usize];
 }
 
 // The height of an entry raises the one above it, whose long child it then is, unless another child is taller.
 fn lift(n: usize, space: &mut [u32], at: Position, over: Position)
-    requires { ⌜ (length (now space) ≡ 6 * n) × (n ≤ 1048576) × (at .0 < n) × (over .0 < n) × (getD (now space) (n * 4 + at .0) 0 ≤ 1048576) ⌝ }
-    ensures tall { λ _. ⌜ (getD (now (space .entry)) (n * 4 + over .0) 0 ≤ getD (now (space .entry)) (n * 4 + at .0) 0 + 1 → now (space .exit) ≡ set (set (now (space .entry)) (n * 4 + over .0) (getD (now (space .entry)) (n * 4 + at .0) 0 + 1)) (n * 5 + over .0) (at .0)) ⌝ }
-    ensures short { λ _. ⌜ (getD (now (space .entry)) (n * 4 + at .0) 0 + 1 < getD (now (space .entry)) (n * 4 + over .0) 0 → now (space .exit) ≡ now (space .entry)) ⌝ }
+    requires { ⌜ (length (now space) ≡ 6 * n) × (n ≤ 1048576) × (at .0 < n) × (over .0 < n) × (getD (now space) (4 * n + at .0) 0 ≤ 1048576) ⌝ }
+    ensures tall { λ _. ⌜ (getD (now (space .entry)) (4 * n + over .0) 0 ≤ getD (now (space .entry)) (4 * n + at .0) 0 + 1 → now (space .exit) ≡ set (set (now (space .entry)) (4 * n + over .0) (getD (now (space .entry)) (4 * n + at .0) 0 + 1)) (5 * n + over .0) (at .0)) ⌝ }
+    ensures short { λ _. ⌜ (getD (now (space .entry)) (4 * n + at .0) 0 + 1 < getD (now (space .entry)) (4 * n + over .0) 0 → now (space .exit) ≡ now (space .entry)) ⌝ }
 {
-    let rise = space[n * 4 + at.0 as usize] + 1;
-    if space[n * 4 + over.0 as usize] <= rise {
-        space[n * 4 + over.0 as usize] = rise;
-        space[n * 5 + over.0 as usize] = at.0;
+    let rise = space[4 * n + at.0 as usize] + 1;
+    if space[4 * n + over.0 as usize] <= rise {
+        space[4 * n + over.0 as usize] = rise;
+        space[5 * n + over.0 as usize] = at.0;
     }
 }
 
 // SIZE, HEIGHT and LONG by position into regions 2, 4 and 5 of the working space, from ABOVE in region 3 and the last position down: of children of one
 // height the first is met last.
 pub(crate) fn measures(n: usize, space: &mut [u32])
-    requires { ⌜ ((ps : List ℕ) × Aboves ps (view (n * 3) n (now space)) × (n ≡ length ps)) × (length (now space) ≡ 6 * n) ⌝ }
-    ensures { λ _. ⌜ ((ps : List ℕ) → Aboves ps (view (n * 3) n (now (space .entry))) → n ≡ length ps → Grown ps n (now (space .entry)) (now (space .exit))) ⌝ }
+    requires { ⌜ ((ps : List ℕ) × Aboves ps (view (3 * n) n (now space)) × (n ≡ length ps)) × (length (now space) ≡ 6 * n) ⌝ }
+    ensures { λ _. ⌜ ((ps : List ℕ) → Aboves ps (view (3 * n) n (now (space .entry))) → n ≡ length ps → Grown ps n (now (space .entry)) (now (space .exit))) ⌝ }
 {
     alone(n, space);
     let mut end = Position(n as u32);
     while 1 < end.0 {
         let at = Position(end.0 - 1);
-        let over = Position(space[n * 3 + at.0 as usize]);
+        let over = Position(space[3 * n + at.0 as usize]);
         count(n, space, at, over);
         lift(n, space, at, over);
         end = at;

@@ -20,9 +20,9 @@ fn fill_record(parents: &[u32], table: &mut [u32], ladders: usize, at: usize, v:
     ensures { λ _. ⌜ now (table .exit) ≡ put (now (table .entry)) at (jumpRecord (now (parents .entry)) (v .0)) ⌝ }
 {
     let n = parents.len();
-    let a = 4 + n * 2;
+    let a = 4 + 2 * n;
     let b = a + n;
-    let end = ladders + n * 2;
+    let end = ladders + 2 * n;
     let deep = table[4 + v.0 as usize];
     let words = record(&table[a..b], &table[ladders..end], deep, v);
     copy(&words[..], &mut table[at..at + 21]);
@@ -30,7 +30,7 @@ fn fill_record(parents: &[u32], table: &mut [u32], ladders: usize, at: usize, v:
 
 // The records of the entries of a list, one behind another. Where the ladders lie is worked out once.
 fn records(parents: &[u32], table: &mut [u32], ladders: usize, first: usize, nodes: &[u32])
-    requires { ⌜ Reached (now parents) ladders (now table) × (4 + length (now parents) * 3 ≤ first) × (ladders + length (now parents) * 2 ≤ first) × (first + recordWords * length (now nodes) ≤ length (now table)) × ((i : ℕ) → i < length (now nodes) → getD (now nodes) i 0 < length (now parents)) ⌝ }
+    requires { ⌜ Reached (now parents) ladders (now table) × (4 + 3 * length (now parents) ≤ first) × (ladders + 2 * length (now parents) ≤ first) × (first + recordWords * length (now nodes) ≤ length (now table)) × ((i : ℕ) → i < length (now nodes) → getD (now nodes) i 0 < length (now parents)) ⌝ }
     ensures { λ _. ⌜ now (table .exit) ≡ put (now (table .entry)) first (flatMap (jumpRecord (now (parents .entry))) (now (nodes .entry))) ⌝ }
 {
     let mut at = first;
@@ -45,21 +45,21 @@ fn records(parents: &[u32], table: &mut [u32], ladders: usize, first: usize, nod
 // JUMPS, with the list of the jump entries in region 2.
 pub(crate) fn jump_section(parents: &[u32], jumps: u32, table: &mut [u32], space: &mut [u32])
     requires { ⌜ Walked (now parents) (now space) × Sectioned (now parents) (now table) × (length (now table) ≡ tableWords (length (now parents))) × (jumps ≡ length (jumpNodes groupLimit (now parents))) ⌝ }
-    ensures { λ _. ⌜ now (table .exit) ≡ put (now (table .entry)) (4 + length (now (parents .entry)) * 11) (jumpCells (now (parents .entry))) ⌝ }
+    ensures { λ _. ⌜ now (table .exit) ≡ put (now (table .entry)) (4 + 11 * length (now (parents .entry))) (jumpCells (now (parents .entry))) ⌝ }
 {
     let n = parents.len();
-    let b = n * 2;
-    let first = 4 + n * 11;
+    let b = 2 * n;
+    let first = 4 + 11 * n;
     jump_nodes(
-        &table[4 + n * 3..4 + n * 4],
-        &table[4 + n..4 + n * 2],
-        &mut space[b..n * 3],
+        &table[4 + 3 * n..4 + 4 * n],
+        &table[4 + n..4 + 2 * n],
+        &mut space[b..3 * n],
     );
     set_all(&mut table[first..], 0);
     records(
         parents,
         table,
-        4 + n * 6,
+        4 + 6 * n,
         first,
         &space[b..b + jumps as usize],
     );

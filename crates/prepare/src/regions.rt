@@ -14,6 +14,6 @@ pub(crate) fn measure(parents: &[u32], table: &mut [u32], space: &mut [u32])
     let n = parents.len();
     let b = 4 + n;
     carry(space, n, table, 4, n);
-    crate::measure::above(&table[4..b], &mut space[n * 3..n * 4]);
+    crate::measure::above(&table[4..b], &mut space[3 * n..4 * n]);
     crate::measure::measures(n, space);
 }

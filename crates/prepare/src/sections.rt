@@ -24,22 +24,22 @@ fn kind_section(parents: &[u32], table: &mut [u32], space: &[u32]) -> Counts
     let n = parents.len();
     let a = 4 + n;
     let b = a + n;
-    crate::kinds::kinds(&space[0..n], &space[n * 2..n * 3], &mut table[a..b])
+    crate::kinds::kinds(&space[0..n], &space[2 * n..3 * n], &mut table[a..b])
 }
 
 // GROUPS.
 fn group_section(parents: &[u32], table: &mut [u32], space: &[u32])
     requires { ⌜ Measured (now parents) (now space) × (length (now table) ≡ tableWords (length (now parents))) ⌝ }
-    ensures { λ _. ⌜ now (table .exit) ≡ put (now (table .entry)) (4 + length (now (parents .entry)) * 8) (groupCells (now (parents .entry))) ⌝ }
+    ensures { λ _. ⌜ now (table .exit) ≡ put (now (table .entry)) (4 + 8 * length (now (parents .entry))) (groupCells (now (parents .entry))) ⌝ }
 {
     let n = parents.len();
-    let a = 4 + n * 8;
-    let b = a + n * 3;
+    let a = 4 + 8 * n;
+    let b = a + 3 * n;
     crate::grouping::groups(
         &space[0..n],
-        &space[n..n * 2],
-        &space[n * 2..n * 3],
-        &space[n * 3..n * 4],
+        &space[n..2 * n],
+        &space[2 * n..3 * n],
+        &space[3 * n..4 * n],
         &mut table[a..b],
     );
 }
@@ -52,7 +52,7 @@ pub(crate) fn family_sections(parents: &[u32], table: &mut [u32], space: &[u32])
 {
     let n = parents.len();
     let counts = kind_section(parents, table, space);
-    by_entry(parents, space, n * 2, table, 4 + n * 5);
+    by_entry(parents, space, 2 * n, table, 4 + 5 * n);
     group_section(parents, table, space);
     counts
 }
@@ -62,11 +62,11 @@ fn ladder_section(parents: &[u32], table: &mut [u32], space: &mut [u32]) -> u32
     requires { ⌜ Measured (now parents) (now space) × (length (now table) ≡ tableWords (length (now parents))) ⌝ }
     ensures paths { λ r. ⌜ r ≡ length (pathTops (now (parents .entry))) ⌝ }
     ensures kept { λ _. ⌜ Placing (now (parents .entry)) (now (space .exit)) ⌝ }
-    ensures laid { λ _. ⌜ now (table .exit) ≡ put (now (table .entry)) (4 + length (now (parents .entry)) * 6) (ladderCells (now (parents .entry))) ⌝ }
+    ensures laid { λ _. ⌜ now (table .exit) ≡ put (now (table .entry)) (4 + 6 * length (now (parents .entry))) (ladderCells (now (parents .entry))) ⌝ }
 {
     let n = parents.len();
-    let a = 4 + n * 6;
-    let b = a + n * 2;
+    let a = 4 + 6 * n;
+    let b = a + 2 * n;
     crate::laying::paths(n, space, &mut table[a..b])
 }
 
@@ -79,17 +79,17 @@ pub(crate) fn path_sections(parents: &[u32], table: &mut [u32], space: &mut [u32
 {
     let n = parents.len();
     let paths = ladder_section(parents, table, space);
-    by_entry(parents, space, n * 2, table, 4 + n * 2);
+    by_entry(parents, space, 2 * n, table, 4 + 2 * n);
     paths
 }
 
 // PRE.
 fn pre_section(parents: &[u32], table: &mut [u32], space: &[u32])
     requires { ⌜ Walked (now parents) (now space) × (length (now table) ≡ tableWords (length (now parents))) ⌝ }
-    ensures { λ _. ⌜ now (table .exit) ≡ put (now (table .entry)) (4 + length (now (parents .entry)) * 4) (below (length (now (parents .entry))) (position (now (parents .entry)))) ⌝ }
+    ensures { λ _. ⌜ now (table .exit) ≡ put (now (table .entry)) (4 + 4 * length (now (parents .entry))) (below (length (now (parents .entry))) (position (now (parents .entry)))) ⌝ }
 {
     let n = parents.len();
-    let a = 4 + n * 4;
+    let a = 4 + 4 * n;
     let b = a + n;
     crate::spread::positions(&space[0..n], &mut table[a..b]);
 }
@@ -101,7 +101,7 @@ pub(crate) fn order_sections(parents: &[u32], table: &mut [u32], space: &[u32])
 {
     let n = parents.len();
     by_entry(parents, space, n, table, 4);
-    carry(space, 0, table, 4 + n * 3, n);
+    carry(space, 0, table, 4 + 3 * n, n);
     pre_section(parents, table, space);
 }
 

@@ -85,15 +85,15 @@ ys e = judged e .preorder .last .1 .0
 forms : (e : tie.Else3) → (1 ≤ length (ps e)) × (length (ps e) ≤ mostEntries) × Tree (ps e) × (6 * length (ps e) ≤ length (xs e))
 forms e = judging-iff (ps e) 0 (length (xs e)) .0 (sym (judged e .preorder .ensures .0 .0) ∙ e .if3 .left)
 
-room : (e : tie.Else3) → length (ps e) * 6 ≤ length (ys e)
+room : (e : tie.Else3) → 6 * length (ps e) ≤ length (ys e)
 room e = omega (arith, forms e .3, judged e .preorder .kept .1 .0)
 
 fill-table-requires : tie.Need-fill-table-requires
 fill-table-requires c κs =
     let e = c .before .before in
     let n = length (ps e) in (
-      walked-of (ps e) (ys e) (n * 6) (forms e .1) (forms e .2) (omega arith) (room e) (judged e .preorder .ensures .1 .1 .1 .0 (e .if3 .left)),
-      mid-len 0 (4 + n * 11 + n / 6 * 21) (cells (known (judged e))) (omega (arith, tested (judged e) .if2 .left)) ∙ omega arith,
+      walked-of (ps e) (ys e) (6 * n) (forms e .1) (forms e .2) (omega arith) (room e) (judged e .preorder .ensures .1 .1 .1 .0 (e .if3 .left)),
+      mid-len 0 (4 + 11 * n + 21 * (n / 6)) (cells (known (judged e))) (omega (arith, tested (judged e) .if2 .left)) ∙ omega arith,
     )
 
 returns-4 : tie.Need-returns-4
@@ -102,8 +102,8 @@ returns-4 c =
     let e = f .before .before .before in
     let k = known (judged e) in
     let n = length (ps e) in
-    let w = 4 + n * 11 + n / 6 * 21 in
-    let m = n * 6 in
+    let w = 4 + 11 * n + 21 * (n / 6) in
+    let m = 6 * n in
     let p = judged e .preorder in
     let z : m ≡ 6 * n = omega arith in
     let y : w ≡ tableWords n = omega arith in

@@ -47,13 +47,13 @@ abbrev topped : tie.After-struct-known4 → tie.After-struct-known2
 topped x = x .before .before .before .before
 
 abbrev two : tie.After-struct-known4 → ℕ
-two x = getD (topped x .before .before .before .link .last .1 .0) (length (list (topped x)) * 3 + one (topped x)) 0
+two x = getD (topped x .before .before .before .link .last .1 .0) (3 * length (list (topped x)) + one (topped x)) 0
 
 two-is : (x : tie.After-struct-known4) → two x ≡ firstOf (after (list (topped x)) (one (topped x)))
 two-is x =
     let w = topped x in
     let l = w .before .before .before .link in
-    view-at (3 * length (list w)) (length (list w)) (l .last .1 .0) (one w) (length (list w) * 3 + one w) (omega arith) (omega arith)
+    view-at (3 * length (list w)) (length (list w)) (l .last .1 .0) (one w) (3 * length (list w) + one w) (omega arith) (omega arith)
     ∙ l .ensures .nexts (one w) (omega arith) (omega arith)
 
 returns : tie.Need-returns

@@ -37,11 +37,11 @@ xs f = lent (tested f .before .before)
 abbrev ys : tie.After-faults → List ℕ
 ys f = f .faults .last .1 .0
 
-room : (f : tie.After-faults) → length (ps f) * 6 ≤ length (xs f)
+room : (f : tie.After-faults) → 6 * length (ps f) ≤ length (xs f)
 room f = omega (arith, tested f .if2 .left)
 
-long : (f : tie.After-faults) → length (ys f) ≡ length (ps f) * 6 - 0
-long f = f .faults .kept .1 .0 ∙ mid-len 0 (length (ps f) * 6) (xs f) (room f)
+long : (f : tie.After-faults) → length (ys f) ≡ 6 * length (ps f) - 0
+long f = f .faults .kept .1 .0 ∙ mid-len 0 (6 * length (ps f)) (xs f) (room f)
 
 whole : (f : tie.After-faults) → lendFault (length (ps f)) (length (xs f)) ≡ none
 whole f = lend-fine (length (ps f)) (length (xs f)) (fine (tested f .before)) (omega (arith, room f))
@@ -64,18 +64,18 @@ returns-2 c =
 faults-requires : tie.Need-faults-requires
 faults-requires c κs =
     let k = c .before .before .before in
-    (count-iff _ .0 (fine (c .before .before)) .1, omega (arith, mid-len 0 (length (list k) * 6) (lent k) (omega (arith, c .before .if2 .left))))
+    (count-iff _ .0 (fine (c .before .before)) .1, omega (arith, mid-len 0 (6 * length (list k)) (lent k) (omega (arith, c .before .if2 .left))))
 
 returns-3 : tie.Need-returns-3
 returns-3 c =
     let f = c .before .before .before .before in
     let zero = c .if3 .taken in
-    (answered f, kept-accepted (ps f) (xs f) _ _ (answered f) (length (ps f) * 6) (ys f) zero (omega arith) (room f) (long f) (f .faults .ensures .1 zero))
+    (answered f, kept-accepted (ps f) (xs f) _ _ (answered f) (6 * length (ps f)) (ys f) zero (omega arith) (room f) (long f) (f .faults .ensures .1 zero))
 
 returns-4 : tie.Need-returns-4
 returns-4 c =
     let f = c .before .before .before .before .before .before .before .before in
-    let m = length (ps f) * 6 in
+    let m = 6 * length (ps f) in
     let back = putMid 0 (m - 0) (xs f) (ys f) in
     let left = cleared (ps f) (xs f) (whole f) m back _ (omega arith) (simp length-append (omega (arith, long f))) (drop-put 0 m (xs f) (ys f) (omega arith) (room f) (long f)) (c .before .before .clear .ensures) in
     (answered f, kept-refused (ps f) (xs f) _ _ (answered f) _ (c .before .before .before .before .if3 .left) left)

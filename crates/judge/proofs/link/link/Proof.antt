@@ -31,9 +31,9 @@ loop-holds c =
       omega arith,
       omega arith,
       omega arith,
-      omega (arith, same-len-mid (length ps * 2) (length ps * 3 - length ps * 2) xs ys (f .set-all .kept .0)),
+      omega (arith, same-len-mid (2 * length ps) (3 * length ps - 2 * length ps) xs ys (f .set-all .kept .0)),
       record {
-        heads = λ v h. filled-part (length ps * 2) (length ps * 3) (length ps) topMark xs ys (omega arith) (omega arith) (f .set-all .ensures) (2 * length ps) (omega arith) v h ∙ rw (from-end ps (length ps) v (omega arith));
+        heads = λ v h. filled-part (2 * length ps) (3 * length ps) (length ps) topMark xs ys (omega arith) (omega arith) (f .set-all .ensures) (2 * length ps) (omega arith) v h ∙ rw (from-end ps (length ps) v (omega arith));
         nexts = λ j h k. absurd (omega arith);
         tops = rw (from-end ps (length ps) topMark (omega arith));
       },
@@ -54,7 +54,7 @@ loop-again c =
       l .inv .2,
       omega arith,
       simp length-set (l .inv .4),
-      link-below-in ps (l .space) (omega arith) (l .inv .4) (l .end .0) (l .end .0 - 1) (length ps * 2 + q) (length ps * 3 + (l .end .0 - 1)) q (l .first .0) (omega arith) (omega arith) (omega arith) (omega arith) refl (c .before .before .before .before .if2 .taken) (l .inv .5),
+      link-below-in ps (l .space) (omega arith) (l .inv .4) (l .end .0) (l .end .0 - 1) (2 * length ps + q) (3 * length ps + (l .end .0 - 1)) q (l .first .0) (omega arith) (omega arith) (omega arith) (omega arith) refl (c .before .before .before .before .if2 .taken) (l .inv .5),
       simp length-set (l .inv .6),
     )
 
@@ -72,7 +72,7 @@ loop-again-2 c =
       l .inv .2,
       omega arith,
       simp length-set (l .inv .4),
-      link-top-in ps (l .space) (omega arith) (l .inv .4) (l .end .0) (l .end .0 - 1) (length ps * 3 + (l .end .0 - 1)) (l .first .0) (omega arith) below (omega arith) own (l .inv .5),
+      link-top-in ps (l .space) (omega arith) (l .inv .4) (l .end .0) (l .end .0 - 1) (3 * length ps + (l .end .0 - 1)) (l .first .0) (omega arith) below (omega arith) own (l .inv .5),
       simp length-set (l .inv .6),
     )
 
@@ -81,7 +81,7 @@ same-length c =
     let b = c .before .before in
     let f = b .before .before .before in
     let n = length (start b .args .parents .now) in
-    b .loop .inv .6 ∙ same-len-mid (n * 2) (n * 3 - n * 2) (start b .args .space .now) (f .set-all .last .0) (f .set-all .kept .0)
+    b .loop .inv .6 ∙ same-len-mid (2 * n) (3 * n - 2 * n) (start b .args .space .now) (f .set-all .last .0) (f .set-all .kept .0)
 
 returns : tie.Need-returns Inv-loop μ-loop
 returns c =

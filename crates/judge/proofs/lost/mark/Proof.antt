@@ -31,9 +31,9 @@ loop-holds c =
     let ys = f .set-all .last .0 in (
       omega arith,
       omega arith,
-      omega (arith, same-len-mid (length ps * 5) (length ps * 6 - length ps * 5) xs ys (f .set-all .kept .0)),
-      view-other (length ps * 5) 0 (s .args .count) xs (ys ++ postOf (length ps * 5) (length ps * 6 - length ps * 5) xs) (omega (arith, order-short ps (omega arith))) (omega arith) ∙ s .pre .3,
-      mark-none ps (omega arith) _ (filled-part (length ps * 5) (length ps * 6) (length ps) 0 xs ys (omega arith) (omega arith) (f .set-all .ensures) (5 * length ps) (omega arith)),
+      omega (arith, same-len-mid (5 * length ps) (6 * length ps - 5 * length ps) xs ys (f .set-all .kept .0)),
+      view-other (5 * length ps) 0 (s .args .count) xs (ys ++ postOf (5 * length ps) (6 * length ps - 5 * length ps) xs) (omega (arith, order-short ps (omega arith))) (omega arith) ∙ s .pre .3,
+      mark-none ps (omega arith) _ (filled-part (5 * length ps) (6 * length ps) (length ps) 0 xs ys (omega arith) (omega arith) (f .set-all .ensures) (5 * length ps) (omega arith)),
       refl,
     )
 
@@ -53,7 +53,7 @@ loop-again c =
     let s = start b in
     let l = b .loop in
     let ps = s .args .parents .now in
-    let q = length ps * 5 + getD (l .space) (l .at .0) 0 in
+    let q = 5 * length ps + getD (l .space) (l .at .0) 0 in
     let e : q ≡ 5 * length ps + getD (l .space) (l .at .0) 0 = omega arith in (
       l .inv .0,
       omega arith,
@@ -68,7 +68,7 @@ same-length c =
     let b = c .before .before in
     let f = b .before .before .before in
     let n = length (start b .args .parents .now) in
-    b .loop .inv .5 ∙ same-len-mid (n * 5) (n * 6 - n * 5) (start b .args .space .now) (f .set-all .last .0) (f .set-all .kept .0)
+    b .loop .inv .5 ∙ same-len-mid (5 * n) (6 * n - 5 * n) (start b .args .space .now) (f .set-all .last .0) (f .set-all .kept .0)
 
 returns : tie.Need-returns Inv-loop μ-loop
 returns c =

@@ -26,8 +26,8 @@ loop-holds : tie.Need-loop-holds Inv-loop μ-loop
 loop-holds c =
     let ps = c .args .parents .now in
     let xs = c .args .space .now in
-    let e : 5 * length ps - length ps * 5 ≡ 0 = omega arith in
-    (refl, omega arith, omega arith, omega arith, omega arith, omega arith, c .pre .1, c .pre .2, rw (e, view-none 0 0 xs, view-none (length ps) 0 xs, view-none (length ps * 5) 0 xs) (walk-start ps (omega arith) (c .args .first .0) (c .pre .2 .tops)), refl)
+    let e : 5 * length ps - 5 * length ps ≡ 0 = omega arith in
+    (refl, omega arith, omega arith, omega arith, omega arith, omega arith, c .pre .1, c .pre .2, rw (e, view-none 0 0 xs, view-none (length ps) 0 xs, view-none (5 * length ps) 0 xs) (walk-start ps (omega arith) (c .args .first .0) (c .pre .2 .tops)), refl)
 
 room : (c : tie.Then1 Inv-loop μ-loop) → c .before .before .loop .count < length (start (c .before .before) .args .parents .now)
 room c =
@@ -46,8 +46,8 @@ loop-again c =
     let ps = s .args .parents .now in
     let r = room t in
     let v = l .cur .0 in
-    let lk = linked-in ps (l .space) (omega arith) (l .inv .6) (s .args .first .0) (l .inv .7) (l .count) (l .sp) v (omega arith) (omega arith) (omega arith) (omega arith) (omega arith) (l .inv .8) (length ps + l .count) (length ps * 5 - l .sp) (l .sp - 1) (length ps * 2 + v) (length ps * 3 + v) refl (omega arith) (omega arith) (omega arith) (omega arith) in
-    let em = emit-in ps (l .space) (omega arith) (l .inv .6) (s .args .first .0) (l .inv .7) (l .count) (l .sp) v (omega arith) (omega arith) (omega arith) (omega arith) (omega arith) (l .inv .8) (length ps + l .count) (length ps * 5 - l .sp) (l .sp - 1) (length ps * 2 + v) (length ps * 3 + v) refl (omega arith) (omega arith) (omega arith) (omega arith) in
+    let lk = linked-in ps (l .space) (omega arith) (l .inv .6) (s .args .first .0) (l .inv .7) (l .count) (l .sp) v (omega arith) (omega arith) (omega arith) (omega arith) (omega arith) (l .inv .8) (length ps + l .count) (5 * length ps - l .sp) (l .sp - 1) (2 * length ps + v) (3 * length ps + v) refl (omega arith) (omega arith) (omega arith) (omega arith) in
+    let em = emit-in ps (l .space) (omega arith) (l .inv .6) (s .args .first .0) (l .inv .7) (l .count) (l .sp) v (omega arith) (omega arith) (omega arith) (omega arith) (omega arith) (l .inv .8) (length ps + l .count) (5 * length ps - l .sp) (l .sp - 1) (2 * length ps + v) (3 * length ps + v) refl (omega arith) (omega arith) (omega arith) (omega arith) in
     (l .inv .0, l .inv .1, omega arith, omega arith, omega arith, omega arith, simp length-set (l .inv .6), lk, em, simp length-set (l .inv .9))
 
 returns : tie.Need-returns Inv-loop μ-loop

@@ -83,7 +83,7 @@ add-height c =
     let st = l .inv .2 ps u e in
     let t = sym (c .before .before .before .before .before .before .before .before .before .before .before .before .before .before .before .path-top .ensures ps (st .upright) e) ∙ c .before .before .before .before .before .before .before .before .before .before .before .before .before .before .if2 .taken in
     let own = c .before .before .before .before .before .before .before .before .before .before .before .top-place .ensures ps (st .upright) e .0 in
-    let high = ap (λ x. getD x (s .args .n * 4 + at) 0) (c .before .before .before .before .before .before .settle .ensures .0) ∙ height-kept ps (l .space) (s .args .n) (st .upright) e at _ (omega arith) in
+    let high = ap (λ x. getD x (4 * s .args .n + at) 0) (c .before .before .before .before .before .before .settle .ensures .0) ∙ height-kept ps (l .space) (s .args .n) (st .upright) e at _ (omega arith) in
     omega (arith, own, high, words-small ps (s .args .n) e at (l .paths) (l .words) (l .space) (l .cells) (omega arith) st t)
 
 add-paths : tie.Need-add-paths Inv-loop μ-loop
@@ -114,7 +114,7 @@ loop-again c =
           let st = l .inv .2 ps u e in
           let t = sym (c .before .before .before .before .before .before .before .before .before .before .before .before .before .before .before .path-top .ensures ps (st .upright) e) ∙ c .before .before .before .before .before .before .before .before .before .before .before .before .before .before .if2 .taken in
           let (own, risen) = top .ensures ps (st .upright) e in
-          let high = ap (λ x. getD x (n * 4 + at) 0) (settle .ensures .0) ∙ height-kept ps (l .space) n (st .upright) e at (top .result) low in
+          let high = ap (λ x. getD x (4 * n + at) 0) (settle .ensures .0) ∙ height-kept ps (l .space) n (st .upright) e at (top .result) low in
           stand-top ps n e at (l .paths) (l .words) (l .space) (l .cells) low st t (top .result) _ _ _ _ own high risen (settle .ensures .0) (settle .ensures .1),
     )
 

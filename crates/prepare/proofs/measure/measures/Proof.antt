@@ -13,7 +13,7 @@ use Rattle.prepare.proofs.measure.measures.Tie as tie
 
 abbrev Inv-loop : tie.InvT-loop
 Inv-loop n space₀ end₀ space end =
-    (end .0 ≤ n) × (length space ≡ 6 * n) × (n ≤ 1048576) × ((ps : List ℕ) → Aboves ps (view (n * 3) n space₀) → n ≡ length ps → Growing ps n (end .0) space₀ space)
+    (end .0 ≤ n) × (length space ≡ 6 * n) × (n ≤ 1048576) × ((ps : List ℕ) → Aboves ps (view (3 * n) n space₀) → n ≡ length ps → Growing ps n (end .0) space₀ space)
 
 abbrev μ-loop : tie.MeasureT-loop
 μ-loop n space₀ end₀ space end = end .0

@@ -14,13 +14,13 @@ use Rattle.prepare.proofs.records.jump_section.Statement.{statement}
 use Rattle.prepare.proofs.records.jump_section.Tie as tie
 
 -- the list of the jump entries, as it is lent
-nodes-lent : (s : tie.Start) (cells : List ℕ) → length cells ≡ length (midOf (length (s .args .parents .now) * 2) (length (s .args .parents .now) * 3 - length (s .args .parents .now) * 2) (s .args .space .now)) → Listed (s .args .parents .now) cells
-    → midOf (length (s .args .parents .now) * 2) (length (s .args .parents .now) * 2 + s .args .jumps - length (s .args .parents .now) * 2) (putMid (length (s .args .parents .now) * 2) (length (s .args .parents .now) * 3 - length (s .args .parents .now) * 2) (s .args .space .now) cells) ≡ jumpNodes groupLimit (s .args .parents .now)
+nodes-lent : (s : tie.Start) (cells : List ℕ) → length cells ≡ length (midOf (2 * length (s .args .parents .now)) (3 * length (s .args .parents .now) - 2 * length (s .args .parents .now)) (s .args .space .now)) → Listed (s .args .parents .now) cells
+    → midOf (2 * length (s .args .parents .now)) (2 * length (s .args .parents .now) + s .args .jumps - 2 * length (s .args .parents .now)) (putMid (2 * length (s .args .parents .now)) (3 * length (s .args .parents .now) - 2 * length (s .args .parents .now)) (s .args .space .now) cells) ≡ jumpNodes groupLimit (s .args .parents .now)
 nodes-lent s cells e l =
     let ps = s .args .parents .now in
     let n = length ps in
     let w = s .pre .0 in
-    listed-lent ps (s .args .table .now) (w .few) (w .tree) (s .pre .1) (s .pre .2) (s .args .space .now) cells (s .args .jumps) (w .room) (e ∙ mid-len (n * 2) (n * 3) (s .args .space .now) (omega (arith, w .room)) ∙ omega arith) (s .pre .3) l
+    listed-lent ps (s .args .table .now) (w .few) (w .tree) (s .pre .1) (s .pre .2) (s .args .space .now) cells (s .args .jumps) (w .room) (e ∙ mid-len (2 * n) (3 * n) (s .args .space .now) (omega (arith, w .room)) ∙ omega arith) (s .pre .3) l
 
 jump-nodes-requires : tie.Need-jump-nodes-requires
 jump-nodes-requires c κs =
@@ -30,7 +30,7 @@ jump-nodes-requires c κs =
     let t = s .args .table .now in
     let w = s .pre .0 in (
       (ps, jumping-of ps t (w .few) (w .tree) (s .pre .1) (s .pre .2)),
-      omega (arith, mid-len (n * 2) (n * 3) (s .args .space .now) (omega (arith, w .room)), mid-len (4 + n * 3) (4 + n * 4) t (omega (arith, s .pre .2))),
+      omega (arith, mid-len (2 * n) (3 * n) (s .args .space .now) (omega (arith, w .room)), mid-len (4 + 3 * n) (4 + 4 * n) t (omega (arith, s .pre .2))),
     )
 
 part-records-end : tie.Need-part-records-end
@@ -40,7 +40,7 @@ part-records-end c =
     let n = length ps in
     let w = s .pre .0 in
     let j = c .before .before .before .before .before .before .before .before .jump-nodes in
-    omega (arith, w .room, s .pre .3, nodes-few ps (s .args .table .now) (w .few) (w .tree) (s .pre .1) (s .pre .2), same-len-mid (n * 2) (n * 3 - n * 2) (s .args .space .now) (j .last .1 .1 .0) (j .kept .1 .1 .0))
+    omega (arith, w .room, s .pre .3, nodes-few ps (s .args .table .now) (w .few) (w .tree) (s .pre .1) (s .pre .2), same-len-mid (2 * n) (3 * n - 2 * n) (s .args .space .now) (j .last .1 .1 .0) (j .kept .1 .1 .0))
 
 records-requires : tie.Need-records-requires
 records-requires c κs =

@@ -17,7 +17,7 @@ above-requires c κs =
     let w = s .pre .0 in
     let k = c .before .before .before .before .before .carry in (
       (ps, depths-of ps (s .args .space .now) w (s .args .table .now) (k .last .1 .1 .0) (omega (arith, s .pre .1)) (k .ensures)),
-      omega (arith, mid-len (n * 3) (n * 4) (s .args .space .now) (omega (arith, w .room)), mid-len 4 (4 + n) (k .last .1 .1 .0) (omega (arith, s .pre .1, k .kept .1 .1 .0))),
+      omega (arith, mid-len (3 * n) (4 * n) (s .args .space .now) (omega (arith, w .room)), mid-len 4 (4 + n) (k .last .1 .1 .0) (omega (arith, s .pre .1, k .kept .1 .1 .0))),
     )
 
 measures-requires : tie.Need-measures-requires

@@ -20,9 +20,9 @@ returns c =
     let t = s .args .table .now in
     let w = s .pre .0 .walked in
     let k = c .before .before .before .before .before .before .before .before .before .before .kind-section in
-    let second : c .before .before .before .before .before .before .by-entry .last .1 .1 .1 .0 ≡ put (put t (4 + n) (below n (kind groupLimit ps))) (4 + n * 5) (below n (size ps))
-    = c .before .before .before .before .before .before .by-entry .ensures (size ps) (s .pre .0 .sizes) ∙ ap (λ l. put l (4 + n * 5) (below n (size ps))) (k .ensures .1) in
-    let third = c .before .before .group-section .ensures ∙ ap (λ l. put l (4 + n * 8) (groupCells ps)) second in
+    let second : c .before .before .before .before .before .before .by-entry .last .1 .1 .1 .0 ≡ put (put t (4 + n) (below n (kind groupLimit ps))) (4 + 5 * n) (below n (size ps))
+    = c .before .before .before .before .before .before .by-entry .ensures (size ps) (s .pre .0 .sizes) ∙ ap (λ l. put l (4 + 5 * n) (below n (size ps))) (k .ensures .1) in
+    let third = c .before .before .group-section .ensures ∙ ap (λ l. put l (4 + 8 * n) (groupCells ps)) second in
     (k .ensures .0, rw third (familied ps t (s .pre .1) (w .few) (w .tree)))
 
 pub family-sections-spec : {M : Type 1} → statement M

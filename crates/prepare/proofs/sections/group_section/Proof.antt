@@ -18,7 +18,7 @@ groups-requires c κs =
     let n = length ps in
     let xs = s .args .space .now in (
       (ps, members-of ps xs (s .pre .0)),
-      omega (arith, mid-len (4 + n * 8) (4 + n * 8 + n * 3) (s .args .table .now) (omega (arith, s .pre .1)), mid-len 0 n xs (omega (arith, s .pre .0 .walked .room))),
+      omega (arith, mid-len (4 + 8 * n) (4 + 8 * n + 3 * n) (s .args .table .now) (omega (arith, s .pre .1)), mid-len 0 n xs (omega (arith, s .pre .0 .walked .room))),
     )
 
 returns : tie.Need-returns
@@ -29,8 +29,8 @@ returns c =
     let n = length ps in
     let r = c .before .before .groups in
     let laid = r .ensures ps (members-of ps (s .args .space .now) (s .pre .0)) in
-    let same = r .kept .1 .1 .1 .1 .0 ∙ mid-len (4 + n * 8) (4 + n * 8 + n * 3) (s .args .table .now) (omega (arith, s .pre .1)) in
-    lent-back (4 + n * 8) (4 + n * 8 + n * 3) (s .args .table .now) _ _ laid (omega (arith, ap length laid, same))
+    let same = r .kept .1 .1 .1 .1 .0 ∙ mid-len (4 + 8 * n) (4 + 8 * n + 3 * n) (s .args .table .now) (omega (arith, s .pre .1)) in
+    lent-back (4 + 8 * n) (4 + 8 * n + 3 * n) (s .args .table .now) _ _ laid (omega (arith, ap length laid, same))
 
 pub group-section-spec : {M : Type 1} → statement M
 group-section-spec =

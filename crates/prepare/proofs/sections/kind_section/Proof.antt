@@ -19,7 +19,7 @@ kinds-requires c κs =
     let n = length ps in
     let xs = s .args .space .now in (
       (ps, families-of ps xs (s .pre .0)),
-      omega (arith, mid-len (4 + n) (4 + n + n) (s .args .table .now) (omega (arith, s .pre .1)), mid-len (n * 2) (n * 3) xs (omega (arith, s .pre .0 .walked .room))),
+      omega (arith, mid-len (4 + n) (4 + n + n) (s .args .table .now) (omega (arith, s .pre .1)), mid-len (2 * n) (3 * n) xs (omega (arith, s .pre .0 .walked .room))),
     )
 
 returns : tie.Need-returns

@@ -16,7 +16,7 @@ paths-requires c κs =
     let ps = s .args .parents .now in
     let n = length ps in (
       (ps, upright-of ps (s .args .space .now) (s .pre .0), refl),
-      omega (arith, mid-len (4 + n * 6) (4 + n * 6 + n * 2) (s .args .table .now) (omega (arith, s .pre .1))),
+      omega (arith, mid-len (4 + 6 * n) (4 + 6 * n + 2 * n) (s .args .table .now) (omega (arith, s .pre .1))),
     )
 
 returns : tie.Need-returns
@@ -26,11 +26,11 @@ returns c =
     let n = length ps in
     let r = c .before .before .before .before .paths in
     let laid = r .ensures ps (upright-of ps (s .args .space .now) (s .pre .0)) refl in
-    let same = r .kept .1 .1 .0 ∙ mid-len (4 + n * 6) (4 + n * 6 + n * 2) (s .args .table .now) (omega (arith, s .pre .1)) in (
+    let same = r .kept .1 .1 .0 ∙ mid-len (4 + 6 * n) (4 + 6 * n + 2 * n) (s .args .table .now) (omega (arith, s .pre .1)) in (
       laid .paths-are,
       (
         placing ps _ _ _ laid,
-        lent-back (4 + n * 6) (4 + n * 6 + n * 2) (s .args .table .now) _ _ (laid .rungs-are) (omega (arith, ap length (laid .rungs-are), same)),
+        lent-back (4 + 6 * n) (4 + 6 * n + 2 * n) (s .args .table .now) _ _ (laid .rungs-are) (omega (arith, ap length (laid .rungs-are), same)),
       ),
     )
 

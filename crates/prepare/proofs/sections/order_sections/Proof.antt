@@ -21,9 +21,9 @@ returns c =
     let w = s .pre .0 in
     let few = w .few in
     let first = c .before .before .before .before .before .before .before .before .before .before .by-entry .ensures (depth ps) (w .depths) in
-    let second = c .before .before .before .before .before .before .carry .ensures ∙ ap (put _ (4 + n * 3)) (w .orders) ∙ ap (λ l. put l (4 + n * 3) (order ps)) first in
-    let third : c .before .before .pre-section .last .1 .0 ≡ put (put (put t 4 (below n (depth ps))) (4 + n * 3) (order ps)) (4 + n * 4) (below n (position ps))
-    = c .before .before .pre-section .ensures ∙ ap (λ l. put l (4 + n * 4) (below n (position ps))) second in
+    let second = c .before .before .before .before .before .before .carry .ensures ∙ ap (put _ (4 + 3 * n)) (w .orders) ∙ ap (λ l. put l (4 + 3 * n) (order ps)) first in
+    let third : c .before .before .pre-section .last .1 .0 ≡ put (put (put t 4 (below n (depth ps))) (4 + 3 * n) (order ps)) (4 + 4 * n) (below n (position ps))
+    = c .before .before .pre-section .ensures ∙ ap (λ l. put l (4 + 4 * n) (below n (position ps))) second in
     rw third (sectioned ps t (s .pre .1) (order-length ps (omega (arith, few)) (w .tree)) (s .pre .2) (s .pre .3))
 
 pub order-sections-spec : {M : Type 1} → statement M

@@ -16,7 +16,7 @@ returns c =
     let n = length ps in
     let w = s .pre .0 .walked in
     let p = c .before .before .before .before .before .before .before .before .before .ladder-section in
-    let laid = c .before .before .by-entry .ensures (ladPos ps) (p .ensures .1 .0 .places) ∙ ap (λ l. put l (4 + n * 2) (below n (ladPos ps))) (p .ensures .1 .1) in
+    let laid = c .before .before .by-entry .ensures (ladPos ps) (p .ensures .1 .0 .places) ∙ ap (λ l. put l (4 + 2 * n) (below n (ladPos ps))) (p .ensures .1 .1) in
     (p .ensures .0, (p .ensures .1 .0 .walked, rw laid (laddered ps (s .args .table .now) (s .pre .1) (w .few) (w .tree) (s .pre .2))))
 
 pub path-sections-spec : {M : Type 1} → statement M

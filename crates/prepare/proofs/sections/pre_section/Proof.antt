@@ -20,7 +20,7 @@ positions-requires c κs =
     let ps = s .args .parents .now in
     let n = length ps in
     let w = s .pre .0 in (
-      indexes-of ps (s .args .space .now) w _ (mid-len (4 + n * 4) (4 + n * 4 + n) (s .args .table .now) (omega (arith, s .pre .1)) ∙ omega arith),
+      indexes-of ps (s .args .space .now) w _ (mid-len (4 + 4 * n) (4 + 4 * n + n) (s .args .table .now) (omega (arith, s .pre .1)) ∙ omega arith),
       omega (arith, mid-len 0 n (s .args .space .now) (omega (arith, w .room)), w .few),
     )
 
@@ -31,7 +31,7 @@ returns c =
     let ps = s .args .parents .now in
     let n = length ps in
     let w = s .pre .0 in
-    lent-back (4 + n * 4) (4 + n * 4 + n) (s .args .table .now) _ (below n (position ps))
+    lent-back (4 + 4 * n) (4 + 4 * n + n) (s .args .table .now) _ (below n (position ps))
     (c .before .before .positions .ensures ps (w .few) (w .tree) (lent 0 n n (s .args .space .now) _ (omega arith) (w .orders)))
     (omega (arith, each-length n 0 (position ps)))
 
