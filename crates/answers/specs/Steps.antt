@@ -7,7 +7,7 @@ use lib.Dec.{leb, ltb}
 use Rattle.base.specs.Lists.{first, below}
 use Rattle.base.specs.Numbers.{Outcome, accepted, unknown, tooDeep, notAbove}
 use Rattle.base.specs.Numbers.{broken as brokenTable}
-use Rattle.base.specs.Limits.{mostEntries, groupLimit, shapeCount, entriesOf, jumpRoom, tableWords, microMark, depthCell, kindCell, ladposCell, orderCell, preCell, sizeCell, ladderCell, positionCell, shapeCell, parentCell, jumpCell, ancestorCell}
+use Rattle.base.specs.Limits.{mostEntries, groupLimit, shapeCount, entriesOf, jumpRoom, tableWords, microMark, localSpan, depthCell, kindCell, ladposCell, orderCell, preCell, sizeCell, ladderCell, positionCell, shapeCell, parentCell, jumpCell, ancestorCell}
 use Rattle.shapes.specs.Climbs.{reached, localDepth, mark}
 use Rattle.answers.specs.Reading.{Reading, done, read, ifLe, ifLt, ifEq, ifNone, andThen}
 
@@ -88,7 +88,7 @@ fromGroup n d depth group local = ifLe n group broken (read (shapeCell n group) 
 unfoldable pub kinded : ℕ → ℕ → ℕ → ℕ → Reading
 kinded n d depth kind =
     ifLe microMark kind
-    (fromGroup n d depth ((kind - microMark) / 8) ((kind - microMark) % 8))
+    (fromGroup n d depth ((kind - microMark) / localSpan) ((kind - microMark) % localSpan))
     (fromJump n d kind)
 
 -- step 2, after its tests: the ancestor at depth d of v, whose depth is not less

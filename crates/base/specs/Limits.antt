@@ -42,45 +42,76 @@ pub record Sized (t : List ℕ) (n : ℕ) : Type 0 where
 abbrev pub spaceWords : ℕ → ℕ
 spaceWords n = 6 * n
 
--- KIND of a micro entry is at least this
+-- KIND of a micro entry is at least this, and a group's number counts so much of it
 abbrev pub microMark : ℕ
 microMark = 2147483648
 
--- the cells of the sections of n entries: of entry v, at position or index i, of group g, of jump record r
+abbrev pub localSpan : ℕ
+localSpan = 8
+
+-- where the sections of n entries start
+abbrev pub depthStart : ℕ → ℕ
+depthStart n = 4
+
+abbrev pub kindStart : ℕ → ℕ
+kindStart n = 4 + n
+
+abbrev pub ladposStart : ℕ → ℕ
+ladposStart n = 4 + 2 * n
+
+abbrev pub orderStart : ℕ → ℕ
+orderStart n = 4 + 3 * n
+
+abbrev pub preStart : ℕ → ℕ
+preStart n = 4 + 4 * n
+
+abbrev pub sizeStart : ℕ → ℕ
+sizeStart n = 4 + 5 * n
+
+abbrev pub laddersStart : ℕ → ℕ
+laddersStart n = 4 + 6 * n
+
+abbrev pub groupsStart : ℕ → ℕ
+groupsStart n = 4 + 8 * n
+
+abbrev pub jumpsStart : ℕ → ℕ
+jumpsStart n = 4 + 11 * n
+
+-- their cells: of entry v, at position or index i, of group g, of jump record r
 abbrev pub depthCell : ℕ → ℕ → ℕ
-depthCell n v = 4 + v
+depthCell n v = depthStart n + v
 
 abbrev pub kindCell : ℕ → ℕ → ℕ
-kindCell n v = 4 + n + v
+kindCell n v = kindStart n + v
 
 abbrev pub ladposCell : ℕ → ℕ → ℕ
-ladposCell n v = 4 + 2 * n + v
+ladposCell n v = ladposStart n + v
 
 abbrev pub orderCell : ℕ → ℕ → ℕ
-orderCell n i = 4 + 3 * n + i
+orderCell n i = orderStart n + i
 
 abbrev pub preCell : ℕ → ℕ → ℕ
-preCell n v = 4 + 4 * n + v
+preCell n v = preStart n + v
 
 abbrev pub sizeCell : ℕ → ℕ → ℕ
-sizeCell n v = 4 + 5 * n + v
+sizeCell n v = sizeStart n + v
 
 abbrev pub ladderCell : ℕ → ℕ → ℕ
-ladderCell n i = 4 + 6 * n + i
+ladderCell n i = laddersStart n + i
 
 -- a group's position, shape and parent
 abbrev pub positionCell : ℕ → ℕ → ℕ
-positionCell n g = 4 + 8 * n + 3 * g
+positionCell n g = groupsStart n + 3 * g
 
 abbrev pub shapeCell : ℕ → ℕ → ℕ
-shapeCell n g = 4 + 8 * n + 3 * g + 1
+shapeCell n g = groupsStart n + 3 * g + 1
 
 abbrev pub parentCell : ℕ → ℕ → ℕ
-parentCell n g = 4 + 8 * n + 3 * g + 2
+parentCell n g = groupsStart n + 3 * g + 2
 
 -- a jump entry's depth, and the ancestor 2^e above it
 abbrev pub jumpCell : ℕ → ℕ → ℕ
-jumpCell n r = 4 + 11 * n + recordWords * r
+jumpCell n r = jumpsStart n + recordWords * r
 
 abbrev pub ancestorCell : ℕ → ℕ → ℕ → ℕ
-ancestorCell n r e = 4 + 11 * n + recordWords * r + 1 + e
+ancestorCell n r e = jumpsStart n + recordWords * r + 1 + e

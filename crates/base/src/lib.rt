@@ -1,4 +1,6 @@
-// What every crate of the engine rests on: entry numbers and positions, answers with a name, words set to one value.
+// What every crate of the engine rests on: entry numbers and positions, the numbers of the answers, the measures of a table.
+pub mod limits;
+pub mod numbers;
 mod words;
 
 pub use words::clear;

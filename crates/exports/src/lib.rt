@@ -8,14 +8,15 @@ ghost use Rattle.answers.specs.Answers.{answerTo, answerWords};
 ghost use Rattle.answers.specs.Steps.{level, climbing, rating, ancestry, branch};
 ghost use Rattle.exports.specs.Words.{replyWords};
 use base::Node;
+use base::limits::space_words;
+use base::limits::table_words;
 
 // W: the words of a table for n entries.
 #[no_mangle]
 pub extern "C" fn tantsheko_table_words(n: u32) -> u64
     ensures { λ r. ⌜ r ≡ tableWords n ⌝ }
 {
-    let entries = n as u64;
-    4 + entries * 11 + entries / 6 * 21
+    table_words(n) as u64
 }
 
 // The words of the working space for n entries.
@@ -23,7 +24,7 @@ pub extern "C" fn tantsheko_table_words(n: u32) -> u64
 pub extern "C" fn tantsheko_space_words(n: u32) -> u64
     ensures { λ r. ⌜ r ≡ spaceWords n ⌝ }
 {
-    n as u64 * 6
+    space_words(n) as u64
 }
 
 // Prepares the table of a parent list.

@@ -2,18 +2,24 @@
 ghost use mathlib.Core.Path.{_≡_};
 ghost use Prim.Native.Nat.{_*_, _≤_};
 ghost use lib.ListN.{length};
+ghost use Rattle.base.specs.Limits.{mostEntries, spaceWords};
 ghost use Rattle.base.specs.Numbers.{Says};
 ghost use Rattle.judge.specs.Regions.{Ordered};
 ghost use Rattle.judge.specs.Verdict.{verdict};
 use crate::link::link;
 use crate::lost::first_lost;
+use crate::regions::SIBLINGS;
 use crate::stray::first_stray;
 use crate::walk::walk;
 use base::Node;
 use base::Reply;
+use base::numbers::ACCEPTED;
+use base::numbers::LOOP;
+use base::numbers::STRAY;
+use base::numbers::TOPS;
 
 pub(crate) fn faults(parents: &[u32], space: &mut [u32]) -> Reply
-    requires { ⌜ (length (now parents) ≤ 1048576) × (6 * length (now parents) ≤ length (now space)) ⌝ }
+    requires { ⌜ (length (now parents) ≤ mostEntries) × (spaceWords (length (now parents)) ≤ length (now space)) ⌝ }
     ensures answer { λ r. ⌜ Says (verdict (now (parents .entry))) (r .number) (r .word) ⌝ }
     ensures walked { λ r. ⌜ (r .number ≡ 0 → Ordered (now (parents .entry)) (now (space .exit))) ⌝ }
 {
@@ -21,21 +27,21 @@ pub(crate) fn faults(parents: &[u32], space: &mut [u32]) -> Reply
     let s = first_stray(parents);
     if (s.0 as usize) < n {
         return Reply {
-            number: 4,
+            number: STRAY,
             word: s.0,
         };
     }
     let first = link(parents, space);
     if n <= first.0 as usize {
         return Reply {
-            number: 5,
+            number: TOPS,
             word: n as u32,
         };
     }
-    let second = Node(space[3 * n + first.0 as usize]);
+    let second = Node(space[SIBLINGS * n + first.0 as usize]);
     if (second.0 as usize) < n {
         return Reply {
-            number: 5,
+            number: TOPS,
             word: second.0,
         };
     }
@@ -43,12 +49,12 @@ pub(crate) fn faults(parents: &[u32], space: &mut [u32]) -> Reply
     if count < n {
         let w = first_lost(parents, count, space);
         return Reply {
-            number: 6,
+            number: LOOP,
             word: w.0,
         };
     }
     Reply {
-        number: 0,
+        number: ACCEPTED,
         word: n as u32,
     }
 }

@@ -10,8 +10,15 @@ ghost use Rattle.base.specs.Numbers.{count, Says};
 ghost use Rattle.table.specs.Preparing.{countFault, judging, judgedSpace};
 ghost use Rattle.judge.specs.Regions.{Ordered};
 use crate::faults::faults;
+use crate::regions::REGIONS;
 use base::Reply;
 use base::clear;
+use base::limits::MOST_ENTRIES;
+use base::numbers::ACCEPTED;
+use base::numbers::COUNT;
+use base::numbers::SHORT_SPACE;
+
+const MOST: usize = MOST_ENTRIES as usize;
 
 // Whether a list of n entries is not turned away for its count.
 pub fn countable(n: usize) -> bool
@@ -20,7 +27,7 @@ pub fn countable(n: usize) -> bool
     if n == 0 {
         return false;
     }
-    if 1048576 < n {
+    if MOST < n {
         return false;
     }
     true
@@ -37,14 +44,20 @@ pub fn preorder(parents: &[u32], space: &mut [u32]) -> Reply
 {
     let n = parents.len();
     if !countable(n) {
-        return Reply { number: 1, word: 0 };
+        return Reply {
+            number: COUNT,
+            word: 0,
+        };
     }
-    let m = 6 * n;
+    let m = REGIONS * n;
     if space.len() < m {
-        return Reply { number: 3, word: 0 };
+        return Reply {
+            number: SHORT_SPACE,
+            word: 0,
+        };
     }
     let found = faults(parents, &mut space[0..m]);
-    if found.number == 0 {
+    if found.number == ACCEPTED {
         return found;
     }
     clear(space, m);
@@ -58,9 +71,9 @@ pub fn judge(parents: &[u32], space: &mut [u32]) -> Reply
     ensures left { λ _. ⌜ now (space .exit) ≡ judgedSpace (now (parents .entry)) (now (space .entry)) ⌝ }
 {
     let found = preorder(parents, space);
-    if found.number != 0 {
+    if found.number != ACCEPTED {
         return found;
     }
-    clear(space, 6 * parents.len());
+    clear(space, REGIONS * parents.len());
     found
 }

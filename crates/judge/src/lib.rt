@@ -3,6 +3,7 @@ mod faults;
 mod judging;
 mod link;
 mod lost;
+mod regions;
 mod stray;
 mod walk;
 

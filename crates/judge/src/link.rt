@@ -1,20 +1,24 @@
 // The children of each entry, chained in increasing number: region 2 has first children, region 3 next siblings.
 ghost use Prim.Native.Nat.{_*_, _≤_};
 ghost use lib.ListN.{length};
+ghost use Rattle.base.specs.Limits.{mostEntries, spaceWords};
 ghost use Rattle.judge.specs.Regions.{NoStray, Linked, heads, nexts};
+use crate::regions::CHILDREN;
+use crate::regions::SIBLINGS;
 use base::Node;
+use base::limits::TOP_MARK;
 use base::set_all;
 
 // Links the entries, and hands back the first top, or the top mark.
 pub(crate) fn link(parents: &[u32], space: &mut [u32]) -> Node
-    requires { ⌜ (length (now parents) ≤ 1048576) × (6 * length (now parents) ≤ length (now space)) × NoStray (now parents) ⌝ }
+    requires { ⌜ (length (now parents) ≤ mostEntries) × (spaceWords (length (now parents)) ≤ length (now space)) × NoStray (now parents) ⌝ }
     ensures { λ r. ⌜ Linked (now (parents .entry)) 0 (heads (now (parents .entry)) (now (space .exit))) (nexts (now (parents .entry)) (now (space .exit))) (r .0) ⌝ }
 {
     let n = parents.len();
-    let a = 2 * n;
-    let b = 3 * n;
-    set_all(&mut space[a..b], 4294967295);
-    let mut first = Node(4294967295);
+    let a = CHILDREN * n;
+    let b = SIBLINGS * n;
+    set_all(&mut space[a..b], TOP_MARK);
+    let mut first = Node(TOP_MARK);
     let mut end = Node(n as u32);
     while 0 < end.0 {
         let v = Node(end.0 - 1);

@@ -5,22 +5,25 @@ ghost use mathlib.Core.Option.{some};
 ghost use Prim.Native.Nat.{_*_, _<_, _≤_};
 ghost use lib.Dec.{eqb};
 ghost use lib.ListN.{length, getD};
+ghost use Rattle.base.specs.Limits.{mostEntries, spaceWords};
 ghost use Rattle.base.specs.Lists.{below, first, view};
 ghost use Rattle.tree.specs.Forest.{order};
 ghost use Rattle.tree.specs.Faults.{lowest, meetsTop};
 ghost use Rattle.judge.specs.Regions.{orAll, Marked};
+use crate::regions::MARKS;
+use crate::regions::REGIONS;
 use base::Node;
 use base::Position;
 use base::set_all;
 
 // Marks the entries of the preorder in region 5.
 fn mark(parents: &[u32], count: usize, space: &mut [u32])
-    requires { ⌜ (length (now parents) ≤ 1048576) × (6 * length (now parents) ≤ length (now space)) × (count ≡ length (order (now parents))) × (view 0 count (now space) ≡ order (now parents)) ⌝ }
+    requires { ⌜ (length (now parents) ≤ mostEntries) × (spaceWords (length (now parents)) ≤ length (now space)) × (count ≡ length (order (now parents))) × (view 0 count (now space) ≡ order (now parents)) ⌝ }
     ensures { λ _. ⌜ Marked (now (parents .entry)) (view (5 * length (now (parents .entry))) (length (now (parents .entry))) (now (space .exit))) ⌝ }
 {
     let n = parents.len();
-    let a = 5 * n;
-    let b = 6 * n;
+    let a = MARKS * n;
+    let b = REGIONS * n;
     set_all(&mut space[a..b], 0);
     let mut at = Position(0);
     while (at.0 as usize) < count {
@@ -32,7 +35,7 @@ fn mark(parents: &[u32], count: usize, space: &mut [u32])
 
 // The lowest entry whose mark is 0, or how many there are.
 fn first_unmarked(marks: &[u32]) -> Node
-    requires { ⌜ length (now marks) ≤ 1048576 ⌝ }
+    requires { ⌜ length (now marks) ≤ mostEntries ⌝ }
     ensures { λ r. ⌜ r .0 ≡ orAll (first (λ v. eqb (getD (now (marks .entry)) v 0) 0) (below (length (now (marks .entry))) (λ v. v))) (length (now (marks .entry))) ⌝ }
 {
     let mut v = Node(0);
@@ -48,12 +51,12 @@ fn first_unmarked(marks: &[u32]) -> Node
 
 // The lowest entry whose climb never meets the top, where there is one.
 pub(crate) fn first_lost(parents: &[u32], count: usize, space: &mut [u32]) -> Node
-    requires { ⌜ (length (now parents) ≤ 1048576) × (6 * length (now parents) ≤ length (now space)) × (count ≡ length (order (now parents))) × (view 0 count (now space) ≡ order (now parents)) × (count < length (now parents)) ⌝ }
+    requires { ⌜ (length (now parents) ≤ mostEntries) × (spaceWords (length (now parents)) ≤ length (now space)) × (count ≡ length (order (now parents))) × (view 0 count (now space) ≡ order (now parents)) × (count < length (now parents)) ⌝ }
     ensures { λ r. ⌜ (r .0 < length (now (parents .entry))) × (lowest (now (parents .entry)) (λ v. not (meetsTop (now (parents .entry)) v)) ≡ some (r .0)) ⌝ }
 {
     mark(parents, count, space);
     let n = parents.len();
-    let a = 5 * n;
-    let b = 6 * n;
+    let a = MARKS * n;
+    let b = REGIONS * n;
     first_unmarked(&space[a..b])
 }

@@ -62,8 +62,9 @@ module _ (ps table space : List ℕ) where
     let-through z = let (a, b) = judging-none ps 0 (length space) (sym (says .0) ∙ z) in (rw (lent, a, b), rw (lent, a, b), rw (lent, a))
 
 -- the part of the space that a list's preorder and depths stand in
-pub walked-of : (ps space : List ℕ) (m : ℕ) → length ps ≤ mostEntries → Tree ps → m ≡ spaceWords (length ps) → m ≤ length space → Ordered ps space → Walked ps (midOf 0 (m - 0) space)
-walked-of ps space m few tree e room o =
+pub walked-of : (ps space : List ℕ) → length ps ≤ mostEntries → Tree ps → spaceWords (length ps) ≤ length space → Ordered ps space → Walked ps (midOf 0 (spaceWords (length ps) - 0) space)
+walked-of ps space few tree room o =
+    let m = spaceWords (length ps) in
     let long = mid-len 0 m space room in
     let front : (a : ℕ) → a + length ps ≤ m → view a (length ps) (midOf 0 (m - 0) space) ≡ view a (length ps) space = λ a h. sym (view-front a (length ps) (midOf 0 (m - 0) space) (postOf 0 (m - 0) space) (omega arith)) ∙ ap (view a (length ps)) (put-same 0 (m - 0) space) in
     record {

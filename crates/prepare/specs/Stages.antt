@@ -5,7 +5,7 @@ use mathlib.Core.List.{List, map}
 use Prim.Native.Nat.{ℕ, _+_, _*_, _≤_}
 use lib.ListN.{length}
 use Rattle.base.specs.Lists.{below, view}
-use Rattle.base.specs.Limits.{mostEntries, groupLimit, spaceWords}
+use Rattle.base.specs.Limits.{mostEntries, groupLimit, spaceWords, depthStart, kindStart, ladposStart, orderStart, preStart, sizeStart, laddersStart, groupsStart}
 use Rattle.tree.specs.Parents.{depth}
 use Rattle.tree.specs.Forest.{size, height, order, position}
 use Rattle.tree.specs.Faults.{Tree}
@@ -37,22 +37,22 @@ pub record Placing (ps space : List ℕ) : Type 0 where
 
 -- KIND, SIZE and GROUPS
 pub record Familied (ps table : List ℕ) : Type 0 where
-  pub kinds : view (4 + length ps) (length ps) table ≡ below (length ps) (kind groupLimit ps)
-  pub sizes : view (4 + 5 * length ps) (length ps) table ≡ below (length ps) (size ps)
-  pub groups : view (4 + 8 * length ps) (3 * length ps) table ≡ groupCells ps
+  pub kinds : view (kindStart (length ps)) (length ps) table ≡ below (length ps) (kind groupLimit ps)
+  pub sizes : view (sizeStart (length ps)) (length ps) table ≡ below (length ps) (size ps)
+  pub groups : view (groupsStart (length ps)) (3 * length ps) table ≡ groupCells ps
 
 -- LADPOS and LADDERS
 pub record Laddered (ps table : List ℕ) : Type 0 where
-  pub places : view (4 + 2 * length ps) (length ps) table ≡ below (length ps) (ladPos ps)
-  pub rungs : view (4 + 6 * length ps) (2 * length ps) table ≡ ladderCells ps
+  pub places : view (ladposStart (length ps)) (length ps) table ≡ below (length ps) (ladPos ps)
+  pub rungs : view (laddersStart (length ps)) (2 * length ps) table ≡ ladderCells ps
 
 -- the sections between the header and JUMPS
 pub record Sectioned (ps table : List ℕ) : Type 0 where
   pub families : Familied ps table
   pub paths : Laddered ps table
-  pub depths : view 4 (length ps) table ≡ below (length ps) (depth ps)
-  pub orders : view (4 + 3 * length ps) (length ps) table ≡ order ps
-  pub pres : view (4 + 4 * length ps) (length ps) table ≡ below (length ps) (position ps)
+  pub depths : view (depthStart (length ps)) (length ps) table ≡ below (length ps) (depth ps)
+  pub orders : view (orderStart (length ps)) (length ps) table ≡ order ps
+  pub pres : view (preStart (length ps)) (length ps) table ≡ below (length ps) (position ps)
 
 -- what a record is filled from: DEPTH, LADPOS, and the ladders from a cell on
 pub record Reached (ps : List ℕ) (ladders : ℕ) (table : List ℕ) : Type 0 where
@@ -60,6 +60,6 @@ pub record Reached (ps : List ℕ) (ladders : ℕ) (table : List ℕ) : Type 0 w
   pub tree : Tree ps
   pub long : 4 + 3 * length ps ≤ length table
   pub fits : ladders + 2 * length ps ≤ length table
-  pub depths : view 4 (length ps) table ≡ below (length ps) (depth ps)
-  pub places : view (4 + 2 * length ps) (length ps) table ≡ below (length ps) (ladPos ps)
+  pub depths : view (depthStart (length ps)) (length ps) table ≡ below (length ps) (depth ps)
+  pub places : view (ladposStart (length ps)) (length ps) table ≡ below (length ps) (ladPos ps)
   pub rungs : view ladders (2 * length ps) table ≡ ladderCells ps

@@ -7,6 +7,8 @@ ghost use lib.ListN.{length};
 ghost use Rattle.tree.specs.Parents.{topMark, parent};
 ghost use Rattle.prepare.specs.Arrays.{entryAt, Climbs, Members, Grouped};
 use base::Position;
+use base::limits::GROUP_LIMIT;
+use base::limits::TOP_MARK;
 use base::set_all;
 
 // The entry above the one at a position, or the top mark.
@@ -15,7 +17,7 @@ fn parent_word(order: &[u32], above: &[u32], at: Position) -> u32
     ensures { λ r. ⌜ ((ps : List ℕ) → Climbs ps (now (order .entry)) (now (above .entry)) → r ≡ Option·getD (parent ps (entryAt ps (at .0))) topMark) ⌝ }
 {
     if at.0 == 0 {
-        return 4294967295;
+        return TOP_MARK;
     }
     let over = Position(above[at.0 as usize]);
     order[over.0 as usize]
@@ -31,7 +33,7 @@ pub(crate) fn groups(order: &[u32], depth: &[u32], size: &[u32], above: &[u32], 
     while (next.0 as usize) < order.len() {
         let at = next;
         let entries = size[at.0 as usize];
-        if entries <= 5 {
+        if entries <= GROUP_LIMIT {
             cells[cell] = at.0;
             cells[cell + 1] = shapes::number(depth, at, entries as usize);
             cells[cell + 2] = parent_word(order, above, at);

@@ -6,8 +6,10 @@ ghost use lib.ListN.{length};
 ghost use Rattle.tree.specs.Parents.{depth};
 ghost use Rattle.table.specs.Groups.{jumpRecord};
 ghost use Rattle.prepare.specs.Arrays.{Jumping, Listed, Reaching};
+use crate::places::RECORD_WORDS;
 use base::Node;
 use base::Position;
+use base::limits::MICRO_MARK;
 
 // The jump entries, in preorder: of the entries of size over 5 that lead to one jump entry, that entry stands last.
 pub(crate) fn jump_nodes(order: &[u32], kind: &[u32], cells: &mut [u32])
@@ -20,24 +22,24 @@ pub(crate) fn jump_nodes(order: &[u32], kind: &[u32], cells: &mut [u32])
         next = Position(at.0 + 1);
         let v = Node(order[at.0 as usize]);
         let k = kind[v.0 as usize];
-        if k < 2147483648 {
+        if k < MICRO_MARK {
             cells[k as usize] = v.0;
         }
     }
 }
 
 // A jump entry's record, from LADPOS and LADDERS: each ancestor by one ladder from the one before.
-pub(crate) fn record(places: &[u32], rungs: &[u32], deep: u32, v: Node) -> [u32; 21]
+pub(crate) fn record(places: &[u32], rungs: &[u32], deep: u32, v: Node) -> [u32; RECORD_WORDS]
     requires { ⌜ ((ps : List ℕ) × Reaching ps (now places) (now rungs) × (v .0 < length ps) × (deep ≡ depth ps (v .0))) ⌝ }
     ensures { λ r. ⌜ ((ps : List ℕ) → Reaching ps (now (places .entry)) (now (rungs .entry)) → v .0 < length ps → deep ≡ depth ps (v .0) → r ≡ jumpRecord ps (v .0)) ⌝ }
 {
-    let mut r: [u32; 21] = [0; 21];
+    let mut r: [u32; RECORD_WORDS] = [0; RECORD_WORDS];
     r[0] = deep;
     let mut w = v;
     let mut s: u32 = 1;
     let mut t: u32 = 1;
     let mut e: usize = 1;
-    while e < 21 {
+    while e < RECORD_WORDS {
         if deep < t {
             return r;
         }

@@ -6,6 +6,9 @@ ghost use lib.ListN.{length};
 ghost use Rattle.prepare.specs.Arrays.{Families, Kinded};
 use base::Node;
 use base::Position;
+use base::limits::GROUP_LIMIT;
+use base::limits::LOCAL_SPAN;
+use base::limits::MICRO_MARK;
 
 // The groups and the jump entries.
 pub struct Counts {
@@ -30,13 +33,13 @@ pub(crate) fn kinds(order: &[u32], size: &[u32], cells: &mut [u32]) -> Counts
         next = Position(at.0 + 1);
         let v = Node(order[at.0 as usize]);
         let entries = size[at.0 as usize];
-        if entries <= 5 {
+        if entries <= GROUP_LIMIT {
             if end.0 <= at.0 {
                 groups += 1;
                 root = at;
                 end = Position(at.0 + entries);
             }
-            cells[v.0 as usize] = 2147483648 + 8 * (groups - 1) + (at.0 - root.0);
+            cells[v.0 as usize] = MICRO_MARK + LOCAL_SPAN * (groups - 1) + (at.0 - root.0);
         } else {
             if last.0 + size[last.0 as usize] <= at.0 {
                 jumps += 1;
@@ -45,7 +48,7 @@ pub(crate) fn kinds(order: &[u32], size: &[u32], cells: &mut [u32]) -> Counts
             last = at;
         }
     }
-    if size[0] <= 5 {
+    if size[0] <= GROUP_LIMIT {
         return Counts { groups, jumps };
     }
     Counts {

@@ -6,6 +6,7 @@ mod kinds;
 mod laying;
 mod measure;
 mod parts;
+mod places;
 mod records;
 mod regions;
 mod sections;
@@ -22,8 +23,13 @@ ghost use Rattle.base.specs.Limits.{mostEntries, tableWords, spaceWords};
 ghost use Rattle.base.specs.Numbers.{Says};
 ghost use Rattle.tree.specs.Faults.{Tree};
 ghost use Rattle.table.specs.Preparing.{preparing, tableAfter, spaceAfter, Prepared};
+use crate::places::REGIONS;
 use base::Reply;
 use base::clear;
+use base::limits::table_words;
+use base::numbers::ACCEPTED;
+use base::numbers::COUNT;
+use base::numbers::SHORT_TABLE;
 use judge::countable;
 use judge::preorder;
 
@@ -39,21 +45,27 @@ pub fn prepare(parents: &[u32], table: &mut [u32], space: &mut [u32]) -> Reply
 {
     let n = parents.len();
     if !countable(n) {
-        return Reply { number: 1, word: 0 };
+        return Reply {
+            number: COUNT,
+            word: 0,
+        };
     }
-    let w = 4 + 11 * n + 21 * (n / 6);
+    let w = table_words(n as u32);
     if table.len() < w {
-        return Reply { number: 2, word: 0 };
+        return Reply {
+            number: SHORT_TABLE,
+            word: 0,
+        };
     }
     let found = preorder(parents, space);
-    if found.number != 0 {
+    if found.number != ACCEPTED {
         return found;
     }
-    let m = 6 * n;
+    let m = REGIONS * n;
     filling::fill_table(parents, &mut table[0..w], &mut space[0..m]);
     clear(space, m);
     Reply {
-        number: 0,
+        number: ACCEPTED,
         word: w as u32,
     }
 }

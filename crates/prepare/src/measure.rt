@@ -3,11 +3,18 @@ ghost use mathlib.Core.Path.{_≡_};
 ghost use mathlib.Core.List.{List, map};
 ghost use Prim.Native.Nat.{ℕ, _+_, _*_, _≤_, _<_};
 ghost use lib.ListN.{length, getD, set, replicate};
+ghost use Rattle.base.specs.Limits.{mostEntries, spaceWords};
 ghost use Rattle.base.specs.Lists.{view, put};
 ghost use Rattle.tree.specs.Parents.{topMark};
 ghost use Rattle.tree.specs.Forest.{order};
 ghost use Rattle.prepare.specs.Arrays.{entryAt, abovePosition, Depths, Aboves, Grown};
+use crate::places::ABOVES;
+use crate::places::HEIGHTS;
+use crate::places::LONGS;
+use crate::places::REGIONS;
+use crate::places::SIZES;
 use base::Position;
+use base::limits::TOP_MARK;
 use base::set_all;
 
 // The position of the entry above: the nearest on the climb from the position before that is less deep.
@@ -28,7 +35,7 @@ pub(crate) fn above(depth: &[u32], cells: &mut [u32])
     requires { ⌜ ((ps : List ℕ) × Depths ps (now depth)) × (length (now cells) ≡ length (now depth)) ⌝ }
     ensures { λ _. ⌜ ((ps : List ℕ) → Depths ps (now (depth .entry)) → now (cells .exit) ≡ map (abovePosition ps) (order ps)) ⌝ }
 {
-    cells[0] = 4294967295;
+    cells[0] = TOP_MARK;
     let mut at = Position(1);
     while (at.0 as usize) < depth.len() {
         let over = higher(depth, cells, at);
@@ -39,46 +46,46 @@ pub(crate) fn above(depth: &[u32], cells: &mut [u32])
 
 // Each entry by itself: of size and height 1, and with no long child.
 fn alone(n: usize, space: &mut [u32])
-    requires { ⌜ (length (now space) ≡ 6 * n) × (n ≤ 1048576) ⌝ }
+    requires { ⌜ (length (now space) ≡ spaceWords n) × (n ≤ mostEntries) ⌝ }
     ensures { λ _. ⌜ now (space .exit) ≡ put (put (put (now (space .entry)) (2 * n) (replicate n 1)) (4 * n) (replicate n 1)) (5 * n) (replicate n topMark) ⌝ }
 {
-    set_all(&mut space[2 * n..3 * n], 1);
-    set_all(&mut space[4 * n..5 * n], 1);
-    set_all(&mut space[5 * n..6 * n], 4294967295);
+    set_all(&mut space[SIZES * n..ABOVES * n], 1);
+    set_all(&mut space[HEIGHTS * n..LONGS * n], 1);
+    set_all(&mut space[LONGS * n..REGIONS * n], TOP_MARK);
 }
 
 // The size of an entry is counted in the one above it.
 fn count(n: usize, space: &mut [u32], at: Position, over: Position)
-    requires { ⌜ (length (now space) ≡ 6 * n) × (n ≤ 1048576) × (at .0 < n) × (over .0 < n) × (getD (now space) (2 * n + over .0) 0 + getD (now space) (2 * n + at .0) 0 ≤ 1048576) ⌝ }
+    requires { ⌜ (length (now space) ≡ spaceWords n) × (n ≤ mostEntries) × (at .0 < n) × (over .0 < n) × (getD (now space) (2 * n + over .0) 0 + getD (now space) (2 * n + at .0) 0 ≤ mostEntries) ⌝ }
     ensures { λ _. ⌜ now (space .exit) ≡ set (now (space .entry)) (2 * n + over .0) (getD (now (space .entry)) (2 * n + over .0) 0 + getD (now (space .entry)) (2 * n + at .0) 0) ⌝ }
 {
-    space[2 * n + over.0 as usize] += space[2 * n + at.0 as usize];
+    space[SIZES * n + over.0 as usize] += space[SIZES * n + at.0 as usize];
 }
 
 // The height of an entry raises the one above it, whose long child it then is, unless another child is taller.
 fn lift(n: usize, space: &mut [u32], at: Position, over: Position)
-    requires { ⌜ (length (now space) ≡ 6 * n) × (n ≤ 1048576) × (at .0 < n) × (over .0 < n) × (getD (now space) (4 * n + at .0) 0 ≤ 1048576) ⌝ }
+    requires { ⌜ (length (now space) ≡ spaceWords n) × (n ≤ mostEntries) × (at .0 < n) × (over .0 < n) × (getD (now space) (4 * n + at .0) 0 ≤ mostEntries) ⌝ }
     ensures tall { λ _. ⌜ (getD (now (space .entry)) (4 * n + over .0) 0 ≤ getD (now (space .entry)) (4 * n + at .0) 0 + 1 → now (space .exit) ≡ set (set (now (space .entry)) (4 * n + over .0) (getD (now (space .entry)) (4 * n + at .0) 0 + 1)) (5 * n + over .0) (at .0)) ⌝ }
     ensures short { λ _. ⌜ (getD (now (space .entry)) (4 * n + at .0) 0 + 1 < getD (now (space .entry)) (4 * n + over .0) 0 → now (space .exit) ≡ now (space .entry)) ⌝ }
 {
-    let rise = space[4 * n + at.0 as usize] + 1;
-    if space[4 * n + over.0 as usize] <= rise {
-        space[4 * n + over.0 as usize] = rise;
-        space[5 * n + over.0 as usize] = at.0;
+    let rise = space[HEIGHTS * n + at.0 as usize] + 1;
+    if space[HEIGHTS * n + over.0 as usize] <= rise {
+        space[HEIGHTS * n + over.0 as usize] = rise;
+        space[LONGS * n + over.0 as usize] = at.0;
     }
 }
 
 // SIZE, HEIGHT and LONG by position into regions 2, 4 and 5 of the working space, from ABOVE in region 3 and the last position down: of children of one
 // height the first is met last.
 pub(crate) fn measures(n: usize, space: &mut [u32])
-    requires { ⌜ ((ps : List ℕ) × Aboves ps (view (3 * n) n (now space)) × (n ≡ length ps)) × (length (now space) ≡ 6 * n) ⌝ }
+    requires { ⌜ ((ps : List ℕ) × Aboves ps (view (3 * n) n (now space)) × (n ≡ length ps)) × (length (now space) ≡ spaceWords n) ⌝ }
     ensures { λ _. ⌜ ((ps : List ℕ) → Aboves ps (view (3 * n) n (now (space .entry))) → n ≡ length ps → Grown ps n (now (space .entry)) (now (space .exit))) ⌝ }
 {
     alone(n, space);
     let mut end = Position(n as u32);
     while 1 < end.0 {
         let at = Position(end.0 - 1);
-        let over = Position(space[3 * n + at.0 as usize]);
+        let over = Position(space[ABOVES * n + at.0 as usize]);
         count(n, space, at, over);
         lift(n, space, at, over);
         end = at;

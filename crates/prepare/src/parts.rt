@@ -3,6 +3,7 @@ ghost use mathlib.Core.Path.{_≡_};
 ghost use mathlib.Core.List.{map};
 ghost use Prim.Native.Nat.{ℕ, _+_, _*_, _≤_};
 ghost use lib.ListN.{length};
+ghost use Rattle.base.specs.Limits.{spaceWords};
 ghost use Rattle.base.specs.Lists.{below, view, put};
 ghost use Rattle.tree.specs.Forest.{order};
 ghost use Rattle.prepare.specs.Stages.{Walked};
@@ -21,7 +22,7 @@ pub(crate) fn carry(from: &[u32], a: usize, to: &mut [u32], b: usize, count: usi
 
 // A region with a word for each position, into the section from a on with a word for each entry.
 pub(crate) fn by_entry(parents: &[u32], space: &[u32], region: usize, table: &mut [u32], a: usize)
-    requires { ⌜ Walked (now parents) (now space) × (region + length (now parents) ≤ 6 * length (now parents)) × (a + length (now parents) ≤ length (now table)) ⌝ }
+    requires { ⌜ Walked (now parents) (now space) × (region + length (now parents) ≤ spaceWords (length (now parents))) × (a + length (now parents) ≤ length (now table)) ⌝ }
     ensures { λ _. ⌜ ((f : ℕ → ℕ) → view region (length (now (parents .entry))) (now (space .entry)) ≡ map f (order (now (parents .entry))) → now (table .exit) ≡ put (now (table .entry)) a (below (length (now (parents .entry))) f)) ⌝ }
 {
     let n = parents.len();

@@ -4,12 +4,21 @@ ghost use mathlib.Core.List.{flatMap};
 ghost use Prim.Native.Nat.{ℕ, _+_, _*_, _<_, _≤_};
 ghost use lib.ListN.{length, getD};
 ghost use Rattle.base.specs.Lists.{put};
-ghost use Rattle.base.specs.Limits.{tableWords, groupLimit, recordWords};
+ghost use Rattle.base.specs.Limits.{tableWords, groupLimit, recordWords, jumpsStart};
 ghost use Rattle.table.specs.Groups.{jumpNodes, jumpRecord};
 ghost use Rattle.table.specs.Table.{jumpCells};
 ghost use Rattle.prepare.specs.Stages.{Walked, Sectioned, Reached};
 use crate::jumps::jump_nodes;
 use crate::jumps::record;
+use crate::places::ABOVES;
+use crate::places::HEADER_CELLS;
+use crate::places::JUMP_NODES;
+use crate::places::JUMPS;
+use crate::places::LADDERS;
+use crate::places::LADPOS;
+use crate::places::ORDER;
+use crate::places::PRE;
+use crate::places::RECORD_WORDS;
 use crate::spread::copy;
 use base::Node;
 use base::set_all;
@@ -20,12 +29,12 @@ fn fill_record(parents: &[u32], table: &mut [u32], ladders: usize, at: usize, v:
     ensures { λ _. ⌜ now (table .exit) ≡ put (now (table .entry)) at (jumpRecord (now (parents .entry)) (v .0)) ⌝ }
 {
     let n = parents.len();
-    let a = 4 + 2 * n;
+    let a = HEADER_CELLS + LADPOS * n;
     let b = a + n;
     let end = ladders + 2 * n;
-    let deep = table[4 + v.0 as usize];
+    let deep = table[HEADER_CELLS + v.0 as usize];
     let words = record(&table[a..b], &table[ladders..end], deep, v);
-    copy(&words[..], &mut table[at..at + 21]);
+    copy(&words[..], &mut table[at..at + RECORD_WORDS]);
 }
 
 // The records of the entries of a list, one behind another. Where the ladders lie is worked out once.
@@ -37,7 +46,7 @@ fn records(parents: &[u32], table: &mut [u32], ladders: usize, first: usize, nod
     let mut i: usize = 0;
     while i < nodes.len() {
         fill_record(parents, table, ladders, at, Node(nodes[i]));
-        at += 21;
+        at += RECORD_WORDS;
         i += 1;
     }
 }
@@ -45,21 +54,21 @@ fn records(parents: &[u32], table: &mut [u32], ladders: usize, first: usize, nod
 // JUMPS, with the list of the jump entries in region 2.
 pub(crate) fn jump_section(parents: &[u32], jumps: u32, table: &mut [u32], space: &mut [u32])
     requires { ⌜ Walked (now parents) (now space) × Sectioned (now parents) (now table) × (length (now table) ≡ tableWords (length (now parents))) × (jumps ≡ length (jumpNodes groupLimit (now parents))) ⌝ }
-    ensures { λ _. ⌜ now (table .exit) ≡ put (now (table .entry)) (4 + 11 * length (now (parents .entry))) (jumpCells (now (parents .entry))) ⌝ }
+    ensures { λ _. ⌜ now (table .exit) ≡ put (now (table .entry)) (jumpsStart (length (now (parents .entry)))) (jumpCells (now (parents .entry))) ⌝ }
 {
     let n = parents.len();
-    let b = 2 * n;
-    let first = 4 + 11 * n;
+    let b = JUMP_NODES * n;
+    let first = HEADER_CELLS + JUMPS * n;
     jump_nodes(
-        &table[4 + 3 * n..4 + 4 * n],
-        &table[4 + n..4 + 2 * n],
-        &mut space[b..3 * n],
+        &table[HEADER_CELLS + ORDER * n..HEADER_CELLS + PRE * n],
+        &table[HEADER_CELLS + n..HEADER_CELLS + LADPOS * n],
+        &mut space[b..ABOVES * n],
     );
     set_all(&mut table[first..], 0);
     records(
         parents,
         table,
-        4 + 6 * n,
+        HEADER_CELLS + LADDERS * n,
         first,
         &space[b..b + jumps as usize],
     );

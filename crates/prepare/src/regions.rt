@@ -5,6 +5,9 @@ ghost use lib.ListN.{length};
 ghost use Rattle.base.specs.Limits.{tableWords};
 ghost use Rattle.prepare.specs.Stages.{Walked, Measured};
 use crate::parts::carry;
+use crate::places::ABOVES;
+use crate::places::HEADER_CELLS;
+use crate::places::HEIGHTS;
 
 // The positions of the entries above into region 3, and the sizes, the heights and the positions of the long children into regions 2, 4 and 5.
 pub(crate) fn measure(parents: &[u32], table: &mut [u32], space: &mut [u32])
@@ -12,8 +15,8 @@ pub(crate) fn measure(parents: &[u32], table: &mut [u32], space: &mut [u32])
     ensures { λ _. ⌜ Measured (now (parents .entry)) (now (space .exit)) ⌝ }
 {
     let n = parents.len();
-    let b = 4 + n;
-    carry(space, n, table, 4, n);
-    crate::measure::above(&table[4..b], &mut space[3 * n..4 * n]);
+    let b = HEADER_CELLS + n;
+    carry(space, n, table, HEADER_CELLS, n);
+    crate::measure::above(&table[HEADER_CELLS..b], &mut space[ABOVES * n..HEIGHTS * n]);
     crate::measure::measures(n, space);
 }

@@ -4,7 +4,7 @@ ghost use mathlib.Core.List.{[], _∷_};
 ghost use Prim.Native.Nat.{_+_, _*_, _≤_};
 ghost use lib.ListN.{length};
 ghost use Rattle.base.specs.Lists.{below, put};
-ghost use Rattle.base.specs.Limits.{tableWords, groupLimit};
+ghost use Rattle.base.specs.Limits.{tableWords, groupLimit, kindStart, preStart, laddersStart, groupsStart, mostEntries};
 ghost use Rattle.tree.specs.Forest.{position};
 ghost use Rattle.table.specs.Groups.{groupRoots, jumpNodes, kind};
 ghost use Rattle.table.specs.Ladders.{pathTops};
@@ -13,33 +13,48 @@ ghost use Rattle.prepare.specs.Stages.{Walked, Measured, Placing, Famili
 use crate::kinds::Counts;
 use crate::parts::by_entry;
 use crate::parts::carry;
+use crate::places::ABOVES;
+use crate::places::GROUPS;
+use crate::places::HEADER_CELLS;
+use crate::places::HEIGHTS;
+use crate::places::LADDERS;
+use crate::places::LADPOS;
+use crate::places::ORDER;
+use crate::places::PLACES;
+use crate::places::PRE;
+use crate::places::SIZE;
+use crate::places::SIZES;
 use crate::spread::copy;
 
 // KIND.
 fn kind_section(parents: &[u32], table: &mut [u32], space: &[u32]) -> Counts
     requires { ⌜ Measured (now parents) (now space) × (length (now table) ≡ tableWords (length (now parents))) ⌝ }
     ensures counts { λ r. ⌜ (r .groups ≡ length (groupRoots groupLimit (now (parents .entry)))) × (r .jumps ≡ length (jumpNodes groupLimit (now (parents .entry)))) ⌝ }
-    ensures laid { λ _. ⌜ now (table .exit) ≡ put (now (table .entry)) (4 + length (now (parents .entry))) (below (length (now (parents .entry))) (kind groupLimit (now (parents .entry)))) ⌝ }
+    ensures laid { λ _. ⌜ now (table .exit) ≡ put (now (table .entry)) (kindStart (length (now (parents .entry)))) (below (length (now (parents .entry))) (kind groupLimit (now (parents .entry)))) ⌝ }
 {
     let n = parents.len();
-    let a = 4 + n;
+    let a = HEADER_CELLS + n;
     let b = a + n;
-    crate::kinds::kinds(&space[0..n], &space[2 * n..3 * n], &mut table[a..b])
+    crate::kinds::kinds(
+        &space[0..n],
+        &space[SIZES * n..ABOVES * n],
+        &mut table[a..b],
+    )
 }
 
 // GROUPS.
 fn group_section(parents: &[u32], table: &mut [u32], space: &[u32])
     requires { ⌜ Measured (now parents) (now space) × (length (now table) ≡ tableWords (length (now parents))) ⌝ }
-    ensures { λ _. ⌜ now (table .exit) ≡ put (now (table .entry)) (4 + 8 * length (now (parents .entry))) (groupCells (now (parents .entry))) ⌝ }
+    ensures { λ _. ⌜ now (table .exit) ≡ put (now (table .entry)) (groupsStart (length (now (parents .entry)))) (groupCells (now (parents .entry))) ⌝ }
 {
     let n = parents.len();
-    let a = 4 + 8 * n;
+    let a = HEADER_CELLS + GROUPS * n;
     let b = a + 3 * n;
     crate::grouping::groups(
         &space[0..n],
-        &space[n..2 * n],
-        &space[2 * n..3 * n],
-        &space[3 * n..4 * n],
+        &space[n..SIZES * n],
+        &space[SIZES * n..ABOVES * n],
+        &space[ABOVES * n..HEIGHTS * n],
         &mut table[a..b],
     );
 }
@@ -52,7 +67,7 @@ pub(crate) fn family_sections(parents: &[u32], table: &mut [u32], space: &[u32])
 {
     let n = parents.len();
     let counts = kind_section(parents, table, space);
-    by_entry(parents, space, 2 * n, table, 4 + 5 * n);
+    by_entry(parents, space, SIZES * n, table, HEADER_CELLS + SIZE * n);
     group_section(parents, table, space);
     counts
 }
@@ -62,10 +77,10 @@ fn ladder_section(parents: &[u32], table: &mut [u32], space: &mut [u32]) -> u32
     requires { ⌜ Measured (now parents) (now space) × (length (now table) ≡ tableWords (length (now parents))) ⌝ }
     ensures paths { λ r. ⌜ r ≡ length (pathTops (now (parents .entry))) ⌝ }
     ensures kept { λ _. ⌜ Placing (now (parents .entry)) (now (space .exit)) ⌝ }
-    ensures laid { λ _. ⌜ now (table .exit) ≡ put (now (table .entry)) (4 + 6 * length (now (parents .entry))) (ladderCells (now (parents .entry))) ⌝ }
+    ensures laid { λ _. ⌜ now (table .exit) ≡ put (now (table .entry)) (laddersStart (length (now (parents .entry)))) (ladderCells (now (parents .entry))) ⌝ }
 {
     let n = parents.len();
-    let a = 4 + 6 * n;
+    let a = HEADER_CELLS + LADDERS * n;
     let b = a + 2 * n;
     crate::laying::paths(n, space, &mut table[a..b])
 }
@@ -79,17 +94,17 @@ pub(crate) fn path_sections(parents: &[u32], table: &mut [u32], space: &mut [u32
 {
     let n = parents.len();
     let paths = ladder_section(parents, table, space);
-    by_entry(parents, space, 2 * n, table, 4 + 2 * n);
+    by_entry(parents, space, PLACES * n, table, HEADER_CELLS + LADPOS * n);
     paths
 }
 
 // PRE.
 fn pre_section(parents: &[u32], table: &mut [u32], space: &[u32])
     requires { ⌜ Walked (now parents) (now space) × (length (now table) ≡ tableWords (length (now parents))) ⌝ }
-    ensures { λ _. ⌜ now (table .exit) ≡ put (now (table .entry)) (4 + 4 * length (now (parents .entry))) (below (length (now (parents .entry))) (position (now (parents .entry)))) ⌝ }
+    ensures { λ _. ⌜ now (table .exit) ≡ put (now (table .entry)) (preStart (length (now (parents .entry)))) (below (length (now (parents .entry))) (position (now (parents .entry)))) ⌝ }
 {
     let n = parents.len();
-    let a = 4 + 4 * n;
+    let a = HEADER_CELLS + PRE * n;
     let b = a + n;
     crate::spread::positions(&space[0..n], &mut table[a..b]);
 }
@@ -100,16 +115,16 @@ pub(crate) fn order_sections(parents: &[u32], table: &mut [u32], space: &[u32])
     ensures { λ _. ⌜ Sectioned (now (parents .entry)) (now (table .exit)) ⌝ }
 {
     let n = parents.len();
-    by_entry(parents, space, n, table, 4);
-    carry(space, 0, table, 4 + 3 * n, n);
+    by_entry(parents, space, n, table, HEADER_CELLS);
+    carry(space, 0, table, HEADER_CELLS + ORDER * n, n);
     pre_section(parents, table, space);
 }
 
 // Cells 0 to 3.
 pub(crate) fn header_cells(parents: &[u32], counts: Counts, paths: u32, table: &mut [u32])
-    requires { ⌜ (length (now parents) ≤ 1048576) × (4 ≤ length (now table)) ⌝ }
+    requires { ⌜ (length (now parents) ≤ mostEntries) × (4 ≤ length (now table)) ⌝ }
     ensures { λ _. ⌜ now (table .exit) ≡ put (now (table .entry)) 0 (length (now (parents .entry)) ∷ counts .jumps ∷ counts .groups ∷ paths ∷ []) ⌝ }
 {
     let cells = [parents.len() as u32, counts.jumps, counts.groups, paths];
-    copy(&cells[..], &mut table[0..4]);
+    copy(&cells[..], &mut table[0..HEADER_CELLS]);
 }

@@ -15,6 +15,10 @@ use crate::relate::stand;
 use answers::Answer;
 use answers::Cells;
 use base::Node;
+use base::limits::HEADER_CELLS;
+use base::numbers::ACCEPTED;
+use base::numbers::NOT_ABOVE;
+use base::numbers::TOO_DEEP;
 
 // An 8 of the level lookup is given as 9.
 fn deeper(table: &[u32], n: u32, v: Node, depth: u32, cells: Cells) -> Answer
@@ -29,7 +33,7 @@ fn deeper(table: &[u32], n: u32, v: Node, depth: u32, cells: Cells) -> Answer
     let inner = Answer::of_words(words);
     let more = inner.cells;
     let all = with_ten(cells, more);
-    if inner.number == 8 {
+    if inner.number == TOO_DEEP {
         return broken(all);
     }
     Answer {
@@ -45,12 +49,12 @@ pub(crate) fn strictly(table: &[u32], n: u32, u: Node, v: Node, cells: Cells) ->
 {
     if u.0 == v.0 {
         return Answer {
-            number: 10,
+            number: NOT_ABOVE,
             word: u.0,
             cells,
         };
     }
-    let got = read(table, 4 + u.0, cells);
+    let got = read(table, HEADER_CELLS + u.0, cells);
     let depth = got.word;
     let more = got.cells;
     deeper(table, n, v, depth, more)
@@ -61,7 +65,7 @@ pub(crate) fn child_towards(table: &[u32], u: Node, v: Node) -> Answer
 {
     let relation = stand(table, u, v);
     let cells = relation.cells;
-    if relation.number != 0 {
+    if relation.number != ACCEPTED {
         return Answer {
             number: relation.number,
             word: relation.word,
@@ -70,7 +74,7 @@ pub(crate) fn child_towards(table: &[u32], u: Node, v: Node) -> Answer
     }
     if !relation.above {
         return Answer {
-            number: 10,
+            number: NOT_ABOVE,
             word: u.0,
             cells,
         };

@@ -16,6 +16,15 @@ use answers::Answer;
 use answers::Cells;
 use base::Node;
 use base::Position;
+use base::limits::GROUP_LIMIT;
+use base::limits::GROUP_WORDS;
+use base::limits::GROUPS;
+use base::limits::HEADER_CELLS;
+use base::limits::LOCAL_NUMBERS;
+use base::limits::MICRO_MARK;
+use base::limits::ORDER;
+use base::limits::SHAPE_COUNT;
+use base::numbers::ACCEPTED;
 use shapes::row;
 
 // KIND of the group's parent, which is not micro: step 4 from there. Six cells were read.
@@ -23,7 +32,7 @@ fn over_group(table: &[u32], n: u32, d: u32, kind: u32, cells: Cells) -> Answer
     requires { ⌜ (Sized (now table) n) × (Held 6 cells) ⌝ }
     ensures { λ r. ⌜ r ≡ answerFrom (now (table .entry)) cells (overGroup n d kind) ⌝ }
 {
-    if 2147483648 <= kind {
+    if MICRO_MARK <= kind {
         return broken(cells);
     }
     let a = from_jump(table, n, d, kind);
@@ -45,12 +54,12 @@ fn left_group(table: &[u32], n: u32, d: u32, here: bool, p: Node, cells: Cells) 
     }
     if here {
         return Answer {
-            number: 0,
+            number: ACCEPTED,
             word: p.0,
             cells,
         };
     }
-    let got = read(table, 4 + n + p.0, cells);
+    let got = read(table, HEADER_CELLS + n + p.0, cells);
     let kind = got.word;
     let more = got.cells;
     over_group(table, n, d, kind, more)
@@ -68,17 +77,21 @@ fn in_order(table: &[u32], n: u32, local: u32, position: Position, cells: Cells)
     if n <= at.0 {
         return broken(cells);
     }
-    let got = read(table, 4 + 3 * n + at.0, cells);
+    let got = read(table, HEADER_CELLS + ORDER * n + at.0, cells);
     let word = got.word;
     let more = got.cells;
     settled(n, word, more)
 }
 
 // The local number that k climbs reach by a row of the shape table, 255 where there is none.
-fn reached(row: [u8; 5], k: u32) -> u8
+fn reached(row: [u8; LOCAL_NUMBERS], k: u32) -> u8
     ensures { λ r. ⌜ r ≡ getD row k 255 ⌝ }
 {
-    if k < 5 { row[k as usize] } else { 255 }
+    if k < GROUP_LIMIT {
+        row[k as usize]
+    } else {
+        255
+    }
 }
 
 // Within the group where the climbs asked end there, else from the group's parent.
@@ -90,7 +103,7 @@ fn in_group(
     group: u32,
     shape: u32,
     local: u32,
-    row: [u8; 5],
+    row: [u8; LOCAL_NUMBERS],
     cells: Cells,
 ) -> Answer
     requires { ⌜ (InGroup (now table) n d depth group shape local row) × (Held 4 cells) ⌝ }
@@ -100,12 +113,20 @@ fn in_group(
     let to = reached(row, climbs);
     if to == 255 {
         let before = reached(row, climbs - 1);
-        let got = read(table, 4 + 8 * n + 3 * group + 2, cells);
+        let got = read(
+            table,
+            HEADER_CELLS + GROUPS * n + GROUP_WORDS * group + 2,
+            cells,
+        );
         let p = Node(got.word);
         let more = got.cells;
         return left_group(table, n, d, before != 255, p, more);
     }
-    let got = read(table, 4 + 8 * n + 3 * group, cells);
+    let got = read(
+        table,
+        HEADER_CELLS + GROUPS * n + GROUP_WORDS * group,
+        cells,
+    );
     let position = Position(got.word);
     let more = got.cells;
     in_order(table, n, to as u32, position, more)
@@ -125,10 +146,10 @@ fn shaped(
     requires { ⌜ (Sized (now table) n) × (group < n) × (d < depth) × (Held 4 cells) ⌝ }
     ensures { λ r. ⌜ r ≡ answerFrom (now (table .entry)) cells (shaped n d depth group local shape) ⌝ }
 {
-    if 23 <= shape {
+    if SHAPE_COUNT <= shape {
         return broken(cells);
     }
-    if 5 <= local {
+    if GROUP_LIMIT <= local {
         return broken(cells);
     }
     let row = row(shape, local);
@@ -153,7 +174,11 @@ pub(crate) fn from_group(
     if n <= group {
         return broken(cells);
     }
-    let got = read(table, 4 + 8 * n + 3 * group + 1, cells);
+    let got = read(
+        table,
+        HEADER_CELLS + GROUPS * n + GROUP_WORDS * group + 1,
+        cells,
+    );
     let shape = got.word;
     let more = got.cells;
     shaped(table, n, d, depth, group, local, shape, more)

@@ -14,6 +14,12 @@ use crate::reading::settled;
 use answers::Answer;
 use answers::Cells;
 use base::Node;
+use base::limits::HEADER_CELLS;
+use base::limits::JUMPS;
+use base::limits::LADDERS;
+use base::limits::LADPOS;
+use base::limits::RECORD_WORDS;
+use base::limits::jump_room;
 
 // The last read: LADDERS at the index less the climbs still missing.
 fn ladder(table: &[u32], n: u32, missing: u32, index: u32, cells: Cells) -> Answer
@@ -27,7 +33,7 @@ fn ladder(table: &[u32], n: u32, missing: u32, index: u32, cells: Cells) -> Answ
     if 2 * n <= at {
         return broken(cells);
     }
-    let got = read(table, 4 + 6 * n + at, cells);
+    let got = read(table, HEADER_CELLS + LADDERS * n + at, cells);
     let word = got.word;
     let more = got.cells;
     settled(n, word, more)
@@ -41,7 +47,7 @@ fn landed(table: &[u32], n: u32, missing: u32, w: Node, cells: Cells) -> Answer
     if n <= w.0 {
         return broken(cells);
     }
-    let got = read(table, 4 + 2 * n + w.0, cells);
+    let got = read(table, HEADER_CELLS + LADPOS * n + w.0, cells);
     let index = got.word;
     let more = got.cells;
     ladder(table, n, missing, index, more)
@@ -52,7 +58,11 @@ fn jumped(table: &[u32], n: u32, jump: u32, x: u32, e: u32, cells: Cells) -> Ans
     requires { ⌜ (Sized (now table) n) × (jump < jumpRoom n) × (e < 20) × (2 ^ e ≤ x) ⌝ }
     ensures { λ r. ⌜ r ≡ answerFrom (now (table .entry)) cells (jumped n jump x e) ⌝ }
 {
-    let got = read(table, 4 + 11 * n + 21 * jump + 1 + e, cells);
+    let got = read(
+        table,
+        HEADER_CELLS + JUMPS * n + RECORD_WORDS * jump + 1 + e,
+        cells,
+    );
     let w = Node(got.word);
     let more = got.cells;
     landed(table, n, x - power(e), w, more)
@@ -82,10 +92,10 @@ pub(crate) fn from_jump(table: &[u32], n: u32, d: u32, jump: u32) -> Answer
     ensures { λ r. ⌜ r ≡ answerFrom (now (table .entry)) (listed []) (fromJump n d jump) ⌝ }
 {
     let cells = Cells::new();
-    if n / 6 <= jump {
+    if jump_room(n) <= jump {
         return broken(cells);
     }
-    let got = read(table, 4 + 11 * n + 21 * jump, cells);
+    let got = read(table, HEADER_CELLS + JUMPS * n + RECORD_WORDS * jump, cells);
     let depth = got.word;
     let more = got.cells;
     leaped(table, n, d, jump, depth, more)

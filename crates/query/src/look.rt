@@ -15,6 +15,17 @@ use crate::reading::read;
 use answers::Answer;
 use answers::Cells;
 use base::Node;
+use base::limits::HEADER_CELLS;
+use base::limits::LOCAL_SPAN;
+use base::limits::MICRO_MARK;
+use base::limits::MOST_ENTRIES;
+use base::limits::entries_of;
+use base::limits::table_words;
+use base::numbers::ACCEPTED;
+use base::numbers::TOO_DEEP;
+use base::numbers::UNKNOWN;
+
+const HEADER: usize = HEADER_CELLS as usize;
 
 // What step 1 finds: the number of entries, 0 where the table is broken.
 pub struct Count {
@@ -26,11 +37,10 @@ pub struct Count {
 fn counted(words: usize, n: u32) -> u32
     ensures { λ r. ⌜ r ≡ countFrom words n ⌝ }
 {
-    if 1048576 < n {
+    if MOST_ENTRIES < n {
         return 0;
     }
-    let most = 4 + 11 * n + 21 * (n / 6);
-    if words < most as usize {
+    if words < table_words(n) {
         return 0;
     }
     n
@@ -40,11 +50,11 @@ pub(crate) fn opened(table: &[u32]) -> Count
     ensures { λ r. ⌜ OpenedBy (now (table .entry)) r ⌝ }
 {
     let cells = Cells::new();
-    if table.len() < 4 {
+    if table.len() < HEADER {
         return Count { n: 0, cells };
     }
     let got = read(table, 0, cells);
-    let n = counted(table.len(), got.word);
+    let n = counted(table.len(), entries_of(got.word));
     let more = got.cells;
     Count { n, cells: more }
 }
@@ -54,9 +64,9 @@ fn kinded(table: &[u32], n: u32, d: u32, depth: u32, kind: u32, cells: Cells) ->
     requires { ⌜ (Sized (now table) n) × (d < depth) × (Held 3 cells) ⌝ }
     ensures { λ r. ⌜ r ≡ answerFrom (now (table .entry)) cells (kinded n d depth kind) ⌝ }
 {
-    if 2147483648 <= kind {
-        let x = kind - 2147483648;
-        return from_group(table, n, d, depth, x / 8, x % 8, cells);
+    if MICRO_MARK <= kind {
+        let x = kind - MICRO_MARK;
+        return from_group(table, n, d, depth, x / LOCAL_SPAN, x % LOCAL_SPAN, cells);
     }
     let a = from_jump(table, n, d, kind);
     let more = a.cells;
@@ -73,12 +83,12 @@ fn descended(table: &[u32], n: u32, v: Node, d: u32, depth: u32, cells: Cells) -
 {
     if depth == d {
         return Answer {
-            number: 0,
+            number: ACCEPTED,
             word: v.0,
             cells,
         };
     }
-    let got = read(table, 4 + n + v.0, cells);
+    let got = read(table, HEADER_CELLS + n + v.0, cells);
     let kind = got.word;
     let more = got.cells;
     kinded(table, n, d, depth, kind, more)
@@ -102,7 +112,7 @@ fn deep(table: &[u32], n: u32, climbs: bool, v: Node, x: u32, depth: u32, cells:
     }
     if depth < x {
         return Answer {
-            number: 8,
+            number: TOO_DEEP,
             word: v.0,
             cells,
         };
@@ -117,12 +127,12 @@ fn entered(table: &[u32], n: u32, climbs: bool, v: Node, x: u32, cells: Cells) -
 {
     if n <= v.0 {
         return Answer {
-            number: 7,
+            number: UNKNOWN,
             word: v.0,
             cells,
         };
     }
-    let got = read(table, 4 + v.0, cells);
+    let got = read(table, HEADER_CELLS + v.0, cells);
     let depth = got.word;
     let more = got.cells;
     deep(table, n, climbs, v, x, depth, more)

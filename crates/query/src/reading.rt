@@ -10,6 +10,8 @@ ghost use Rattle.answers.specs.Steps.{answer};
 ghost use Rattle.query.specs.Parts.{gotAt};
 use answers::Answer;
 use answers::Cells;
+use base::numbers::ACCEPTED;
+use base::numbers::BROKEN;
 
 // A word that was read, and the cells read so far.
 pub struct Got {
@@ -32,7 +34,7 @@ pub(crate) fn broken(cells: Cells) -> Answer
     ensures { λ r. ⌜ r ≡ record { number = 9; word = 0; cells = cells } ⌝ }
 {
     Answer {
-        number: 9,
+        number: BROKEN,
         word: 0,
         cells,
     }
@@ -46,7 +48,7 @@ pub(crate) fn settled(n: u32, word: u32, cells: Cells) -> Answer
         return broken(cells);
     }
     Answer {
-        number: 0,
+        number: ACCEPTED,
         word,
         cells,
     }

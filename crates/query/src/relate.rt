@@ -16,6 +16,12 @@ use answers::Answer;
 use answers::Cells;
 use base::Node;
 use base::Position;
+use base::limits::HEADER_CELLS;
+use base::limits::PRE;
+use base::limits::SIZE;
+use base::numbers::ACCEPTED;
+use base::numbers::BROKEN;
+use base::numbers::UNKNOWN;
 
 // How u stands to v in a table of n entries: at or above it, or not. Where that is refused, the refusal's number and what it names; else 0.
 pub struct Relation {
@@ -42,14 +48,14 @@ fn compared(table: &[u32], n: u32, u: Node, v: Node, cells: Cells) -> Relation
     ensures known { λ r. ⌜ (r .n ≡ n) × (Held 4 (r .cells)) ⌝ }
     ensures goes { λ r. ⌜ ((above : ℕ → Reading) (apart : Reading) → relatedFrom (now (table .entry)) r above apart ≡ answerFrom (now (table .entry)) cells (related (u .0) (v .0) above apart n)) ⌝ }
 {
-    let pre_u = read(table, 4 + 4 * n + u.0, cells);
+    let pre_u = read(table, HEADER_CELLS + PRE * n + u.0, cells);
     let one = pre_u.cells;
-    let size_u = read(table, 4 + 5 * n + u.0, one);
+    let size_u = read(table, HEADER_CELLS + SIZE * n + u.0, one);
     let two = size_u.cells;
-    let pre_v = read(table, 4 + 4 * n + v.0, two);
+    let pre_v = read(table, HEADER_CELLS + PRE * n + v.0, two);
     let three = pre_v.cells;
     Relation {
-        number: 0,
+        number: ACCEPTED,
         n,
         above: holds(Position(pre_u.word), size_u.word, Position(pre_v.word)),
         word: 0,
@@ -64,7 +70,7 @@ fn related(table: &[u32], n: u32, u: Node, v: Node, cells: Cells) -> Relation
 {
     if n <= u.0 {
         return Relation {
-            number: 7,
+            number: UNKNOWN,
             n,
             above: false,
             word: u.0,
@@ -73,7 +79,7 @@ fn related(table: &[u32], n: u32, u: Node, v: Node, cells: Cells) -> Relation
     }
     if n <= v.0 {
         return Relation {
-            number: 7,
+            number: UNKNOWN,
             n,
             above: false,
             word: v.0,
@@ -93,7 +99,7 @@ pub(crate) fn stand(table: &[u32], u: Node, v: Node) -> Relation
     let cells = count.cells;
     if n == 0 {
         return Relation {
-            number: 9,
+            number: BROKEN,
             n,
             above: false,
             word: 0,
@@ -108,7 +114,7 @@ pub(crate) fn at_or_above(table: &[u32], u: Node, v: Node) -> Answer
 {
     let relation = stand(table, u, v);
     let cells = relation.cells;
-    if relation.number != 0 {
+    if relation.number != ACCEPTED {
         return Answer {
             number: relation.number,
             word: relation.word,
@@ -117,13 +123,13 @@ pub(crate) fn at_or_above(table: &[u32], u: Node, v: Node) -> Answer
     }
     if !relation.above {
         return Answer {
-            number: 0,
+            number: ACCEPTED,
             word: 0,
             cells,
         };
     }
     Answer {
-        number: 0,
+        number: ACCEPTED,
         word: 1,
         cells,
     }

@@ -7,7 +7,7 @@ use Prim.Native.Nat.{ℕ, _+_, _*_, _^_}
 use lib.ListN.{getD}
 use lib.Dec.{leb}
 use Rattle.base.specs.Lists.{below, keep, index, place, has, every}
-use Rattle.base.specs.Limits.{microMark}
+use Rattle.base.specs.Limits.{microMark, localSpan}
 use Rattle.tree.specs.Parents.{topMark, parent, up, depth, children}
 use Rattle.tree.specs.Forest.{under, size, family, order, position}
 use Rattle.shapes.specs.Walks.{walkRound, shapeNumber}
@@ -47,7 +47,7 @@ jumpRecord ps v = depth ps v ∷ below 20 (λ e. Option·getD (up ps (2 ^ e) v) 
 unfoldable pub microKind : ℕ → List ℕ → ℕ → ℕ
 microKind L ps v =
     let g = index (λ group. has group v) (groups L ps) in
-    microMark + 8 * g + place v (getD (groups L ps) g [])
+    microMark + localSpan * g + place v (getD (groups L ps) g [])
 
 -- KIND of any other: the number of the first jump entry, in preorder, at or below it
 unfoldable pub macroKind : ℕ → List ℕ → ℕ → ℕ

@@ -46,8 +46,8 @@ returns c =
 
 returns-2 : tie.Need-returns-2
 returns-2 c =
-    let k = c .before .before in
-    let (a, b, d) = turned-away (list k) (cells k) (space k) shortTable (call-table _ _ _ (fine (c .before)) (omega arith)) in
+    let k = c .before .before .before in
+    let (a, b, d) = turned-away (list k) (cells k) (space k) shortTable (call-table _ _ _ (fine (c .before .before)) (omega (arith, c .before .table-words .ensures))) in
     promised (list k) (cells k) (space k) _ _ _ _ (says _ shortTable a) (sym b) (sym d)
 
 -- past both tests
@@ -55,10 +55,17 @@ abbrev tested : tie.After-preorder → tie.Else2
 tested p = p .before .before
 
 abbrev known : tie.After-preorder → tie.After-countable
-known p = tested p .before .before
+known p = tested p .before .before .before
+
+-- W
+abbrev w : tie.After-preorder → ℕ
+w p = tested p .before .table-words .result
+
+w-is : (p : tie.After-preorder) → w p ≡ tableWords (length (list (known p)))
+w-is p = tested p .before .table-words .ensures
 
 lent : (p : tie.After-preorder) → callFault (length (list (known p))) (length (cells (known p))) (length (space (known p))) ≡ lendFault (length (list (known p))) (length (space (known p)))
-lent p = call-lent _ _ _ (fine (tested p .before)) (omega (arith, tested p .if2 .left))
+lent p = call-lent _ _ _ (fine (tested p .before .before)) (omega (arith, w-is p))
 
 returns-3 : tie.Need-returns-3
 returns-3 c =
@@ -90,10 +97,9 @@ room e = omega (arith, forms e .3, judged e .preorder .kept .1 .0)
 
 fill-table-requires : tie.Need-fill-table-requires
 fill-table-requires c κs =
-    let e = c .before .before in
-    let n = length (ps e) in (
-      walked-of (ps e) (ys e) (6 * n) (forms e .1) (forms e .2) (omega arith) (room e) (judged e .preorder .ensures .1 .1 .1 .0 (e .if3 .left)),
-      mid-len 0 (4 + 11 * n + 21 * (n / 6)) (cells (known (judged e))) (omega (arith, tested (judged e) .if2 .left)) ∙ omega arith,
+    let e = c .before .before in (
+      walked-of (ps e) (ys e) (forms e .1) (forms e .2) (room e) (judged e .preorder .ensures .1 .1 .1 .0 (e .if3 .left)),
+      mid-len 0 (w (judged e)) (cells (known (judged e))) (omega (arith, tested (judged e) .if2 .left)) ∙ omega (arith, w-is (judged e)),
     )
 
 returns-4 : tie.Need-returns-4
@@ -101,20 +107,16 @@ returns-4 c =
     let f = c .before .before .before .before .before .before .before .before in
     let e = f .before .before .before in
     let k = known (judged e) in
-    let n = length (ps e) in
-    let w = 4 + 11 * n + 21 * (n / 6) in
-    let m = 6 * n in
+    let m = 6 * length (ps e) in
     let p = judged e .preorder in
-    let z : m ≡ 6 * n = omega arith in
-    let y : w ≡ tableWords n = omega arith in
+    let y = w-is (judged e) in
     let long : length (f .fill-table .last .1 .1 .0) ≡ m - 0 = f .fill-table .kept .1 .1 .0 ∙ mid-len 0 m (ys e) (room e) in
-    let back = putMid 0 (m - 0) (ys e) (f .fill-table .last .1 .1 .0) in
-    let whole : m ≤ length back = simp length-append (omega (arith, long)) in
-    let beyond : drop m back ≡ drop m (xs e) = drop-put 0 m (ys e) (f .fill-table .last .1 .1 .0) (omega arith) (room e) long ∙ rw z (p .ensures .1 .1 .1 .1) in
+    let whole : m ≤ length (putMid 0 (m - 0) (ys e) (f .fill-table .last .1 .1 .0)) = simp length-append (omega (arith, long)) in
+    let beyond = drop-put 0 m (ys e) (f .fill-table .last .1 .1 .0) (omega arith) (room e) long ∙ p .ensures .1 .1 .1 .1 in
     let (a, b, d) = let-through (ps e) (cells k) (xs e) (lent (judged e)) _ _ (p .ensures .0) (e .if3 .left) in
-    promised (ps e) (cells k) (xs e) 0 w _ _ (rw (a, ← y) (says _ _ refl))
-    (ap₂ _++_ (f .fill-table .ensures) (post-is 0 w (cells k) (omega arith) ∙ ap (λ j. drop j (cells k)) y) ∙ sym b)
-    (c .before .before .clear .ensures ∙ ap₂ _++_ (ap (λ j. replicate j 0) (min-eq-left whole)) beyond ∙ ap (λ j. replicate j 0 ++ drop j (xs e)) z ∙ sym d)
+    promised (ps e) (cells k) (xs e) 0 (w (judged e)) _ _ (rw (a, ← y) (says _ _ refl))
+    (ap₂ _++_ (f .fill-table .ensures) (post-is 0 (w (judged e)) (cells k) (omega arith) ∙ ap (λ j. drop j (cells k)) y) ∙ sym b)
+    (c .before .before .clear .ensures ∙ ap₂ _++_ (ap (λ j. replicate j 0) (min-eq-left whole)) beyond ∙ sym d)
 
 pub prepare-spec : {M : Type 1} → statement M
 prepare-spec =
@@ -123,9 +125,7 @@ prepare-spec =
     (λ c κs. search needs)
     returns
     (λ c. omega (arith, few c))
-    (λ c. omega (arith, few c))
-    (λ c. search needs)
-    (λ c. omega (arith, few c))
+    (λ c κs. search needs)
     returns-2
     (λ c κs. search needs)
     (λ c. search needs)
@@ -139,7 +139,7 @@ prepare-spec =
     (λ c. omega (arith, room (c .before)))
     fill-table-requires
     (λ c κs. search needs)
-    (λ c. omega (arith, few (tested (judged (c .before .before .before .before .before .before .before .before .before .before .before)) .before)))
+    (λ c. let p = judged (c .before .before .before .before .before .before .before .before .before .before .before) in omega (arith, w-is p, few (tested p .before .before)))
     (λ c. search needs)
     (λ c. search needs)
     returns-4)

@@ -11,10 +11,6 @@ counted-spec =
     tie.close
     (tie.spec
     (λ c. simp (lt-ltb _ _ (c .if1 .taken)))
-    (λ c. search needs)
-    (λ c. search needs)
-    (λ c. search needs)
-    (λ c. search needs)
-    (λ c. search needs)
-    (λ c. simp (le-ltb _ _ (c .before .if1 .left), lt-ltb _ _ (c .if2 .taken)))
-    (λ c. simp (le-ltb _ _ (c .before .if1 .left), le-ltb _ _ (c .if2 .left))))
+    (λ c κs. search needs)
+    (λ c. rw (← (c .before .table-words .ensures)) (simp (le-ltb _ _ (c .before .before .if1 .left), lt-ltb _ _ (c .if2 .taken))))
+    (λ c. rw (← (c .before .table-words .ensures)) (simp (le-ltb _ _ (c .before .before .if1 .left), le-ltb _ _ (c .if2 .left)))))

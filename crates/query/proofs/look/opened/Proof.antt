@@ -1,13 +1,14 @@
 -- `look::opened` meets its contract. Assumes nothing.
-use mathlib.Core.Path.{_≡_, refl}
+use mathlib.Core.Path.{_≡_, refl, ap, _∙_}
 use mathlib.Core.List.{[]}
 use borrow.Author.Needs.{needs}
 use denote.Ref.{now}
 use lib.Dec.{lit<}
 use lib.ListN.{length}
+use Rattle.base.specs.Limits.{entriesOf}
 use Rattle.answers.specs.Answers.{listed, answerFrom}
 use Rattle.answers.specs.Steps.{counted, opened}
-use Rattle.query.specs.Parts.{openFrom}
+use Rattle.query.specs.Parts.{countFrom, openFrom}
 use Rattle.query.proofs.Opening.{count-room, count-goes}
 use Rattle.query.proofs.Walking.{steps, got-held}
 use Rattle.query.proofs.look.opened.Statement.{statement}
@@ -22,14 +23,17 @@ opened-spec =
     (λ c. record { room = λ h. absurd (h refl); one = λ h. absurd (h refl); goes = λ next. rw (c .before .new .ensures) (unfold openFrom in search steps) })
     (λ c κs. search needs)
     (λ c κs. search needs)
+    (λ c κs. search needs)
     (λ c.
-    let got = c .before .before .read .result in
-    let t = now (c .before .before .before .before .before .before .args .table) in
+    let got = c .before .before .before .read .result in
+    let new = c .before .before .before .before .before .new .ensures in
+    let t = now (c .before .before .before .before .before .before .before .args .table) in
+    let n : c .before .counted .result ≡ countFrom (length t) (entriesOf (got .word)) = c .before .counted .ensures ∙ ap (countFrom (length t)) (c .before .before .entries-of .ensures) in
     record {
-      room = rw (c .before .counted .ensures) (count-room t (got .word));
-      one = λ h. got-held got _ _ _ 0 (c .before .before .read .ensures) (record { list = []; long = refl; is = c .before .before .before .before .new .ensures }) (lit< tt);
+      room = rw n (count-room t (got .word));
+      one = λ h. got-held got _ _ _ 0 (c .before .before .before .read .ensures) (record { list = []; long = refl; is = new }) (lit< tt);
       goes = λ next.
           let rest : openFrom t (record { n = c .before .counted .result; cells = got .cells }) next ≡ answerFrom t (got .cells) (counted (length t) (got .word) next) =
-          rw (c .before .counted .ensures) (count-goes t (got .cells) (got .word) next) in
-          rw (← (c .before .before .before .before .new .ensures)) (search steps);
+          rw n (count-goes t (got .cells) (got .word) next) in
+          rw (← new) (search steps);
     }))
