@@ -5,7 +5,7 @@ use mathlib.Core.Path.{_≡_}
 use Prim.Native.Nat.{ℕ, _+_, _<_}
 use lib.ListN.{length, getD, set}
 use lib.Dec.{ltb}
-use Rattle.base.specs.Lists.{has, padded}
+use Rattle.base.specs.Lists.{padded}
 use Rattle.base.specs.Numbers.{Outcome}
 use Rattle.answers.specs.Reading.{Reading, done, read, wordAt, run, trace}
 use Rattle.answers.specs.declared.Cells.{Cells}
@@ -48,7 +48,3 @@ answerWords r = r .number ∷ r .word ∷ (r .cells .at ++ (r .cells .count ∷ 
 -- two tables have the same words in the cells that an answer lists
 abbrev pub SameAt : Answer → List ℕ → List ℕ → Type 0
 SameAt r t u = (i : ℕ) → i < r .cells .count → wordAt t (getD (r .cells .at) i 0) ≡ wordAt u (getD (r .cells .at) i 0)
-
--- an answer's number is one of a list
-abbrev pub Gives : List ℕ → Answer → Type 0
-Gives ns r = has ns (r .number) ≡ true

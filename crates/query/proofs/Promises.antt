@@ -6,7 +6,8 @@ use lib.ListN.{length}
 use Rattle.base.specs.Numbers.{Outcome}
 use Rattle.table.specs.Preparing.{Prepared}
 use Rattle.answers.specs.Reading.{Reading, Within, run}
-use Rattle.answers.specs.Answers.{listed, outcome, answerTo, answerFrom, SameAt, Gives}
+use Rattle.answers.specs.Answers.{listed, outcome, answerTo, answerFrom}
+use Rattle.answers.specs.Promises.{Answers, Gives, Few, Local, Right}
 use Rattle.answers.specs.declared.Answer.{Answer}
 use Rattle.answers.proofs.Answering.{whole, few, locality}
 use Rattle.answers.proofs.Numbers.{Ends, ends-run}
@@ -15,7 +16,7 @@ use Rattle.answers.proofs.Numbers.{Ends, ends-run}
 module _ (t : List ℕ) (p : ℕ → Reading) (b : ℕ) (ns : List ℕ) (r : Answer) (w : (len : ℕ) → Within b (p len)) (n : (len : ℕ) → Ends ns (p len))
     (means : List ℕ → Outcome) (right : (ps : List ℕ) → Prepared ps t → run t (p (length t)) ≡ means ps) where
   abbrev pub Promised : Type 0
-  Promised = (r ≡ answerTo t (p (length t))) × (Gives ns r × ((r .cells .count ≤ b) × (((u : List ℕ) → length u ≡ length t → SameAt r t u → answerTo u (p (length u)) ≡ r) × ((ps : List ℕ) → Prepared ps t → outcome r ≡ means ps))))
+  Promised = Answers p t r × (Gives ns r × (Few b r × (Local p t r × Right means t r)))
 
   pub promised : b ≤ 15 → r ≡ answerFrom t (listed []) (p (length t)) → Promised
   unfolding answerTo

@@ -11,7 +11,7 @@ use crate::joining::with_ten;
 use crate::look::look_words;
 use crate::reading::broken;
 use crate::reading::read;
-use crate::relate::stand;
+use crate::relate::relate;
 use answers::Answer;
 use answers::Cells;
 use base::Node;
@@ -63,7 +63,7 @@ pub(crate) fn strictly(table: &[u32], n: u32, u: Node, v: Node, cells: Cells) ->
 pub(crate) fn child_towards(table: &[u32], u: Node, v: Node) -> Answer
     ensures { λ r. ⌜ r ≡ answerFrom (now (table .entry)) (listed []) (branch (length (now (table .entry))) (u .0) (v .0)) ⌝ }
 {
-    let relation = stand(table, u, v);
+    let relation = relate(table, u, v);
     let cells = relation.cells;
     if relation.number != ACCEPTED {
         return Answer {

@@ -1,6 +1,6 @@
 // How two entries stand to each other, by the intervals of the preorder; ancestry.
 ghost use mathlib.Core.Path.{_≡_};
-ghost use mathlib.Core.Bool.{_&&_};
+ghost use mathlib.Core.Bool.{false, _&&_};
 ghost use Prim.Native.Nat.{ℕ, _+_, _<_};
 ghost use mathlib.Core.List.{[]};
 ghost use lib.ListN.{length};
@@ -30,6 +30,19 @@ pub struct Relation {
     pub above: bool,
     pub word: u32,
     pub cells: Cells,
+}
+
+// A refusal, with what it names.
+fn refused(number: u32, word: u32, cells: Cells) -> Relation
+    ensures { λ r. ⌜ r ≡ record { number = number; n = 0; above = false; word = word; cells = cells } ⌝ }
+{
+    Relation {
+        number,
+        n: 0,
+        above: false,
+        word,
+        cells,
+    }
 }
 
 // PRE u ≤ PRE v < PRE u + SIZE u, without a sum that could wrap.
@@ -69,28 +82,16 @@ fn related(table: &[u32], n: u32, u: Node, v: Node, cells: Cells) -> Relation
     ensures goes { λ r. ⌜ ((above : ℕ → Reading) (apart : Reading) → relatedFrom (now (table .entry)) r above apart ≡ answerFrom (now (table .entry)) cells (related (u .0) (v .0) above apart n)) ⌝ }
 {
     if n <= u.0 {
-        return Relation {
-            number: UNKNOWN,
-            n,
-            above: false,
-            word: u.0,
-            cells,
-        };
+        return refused(UNKNOWN, u.0, cells);
     }
     if n <= v.0 {
-        return Relation {
-            number: UNKNOWN,
-            n,
-            above: false,
-            word: v.0,
-            cells,
-        };
+        return refused(UNKNOWN, v.0, cells);
     }
     compared(table, n, u, v, cells)
 }
 
 // Step 1, and the reads of ancestry.
-pub(crate) fn stand(table: &[u32], u: Node, v: Node) -> Relation
+pub(crate) fn relate(table: &[u32], u: Node, v: Node) -> Relation
     ensures known { λ r. ⌜ (r .number ≡ 0 → (Sized (now (table .entry)) (r .n)) × (u .0 < r .n) × (Held 4 (r .cells))) ⌝ }
     ensures goes { λ r. ⌜ ((above : ℕ → Reading) (apart : Reading) → relatedFrom (now (table .entry)) r above apart ≡ answerFrom (now (table .entry)) (listed []) (opened (length (now (table .entry))) (related (u .0) (v .0) above apart))) ⌝ }
 {
@@ -98,13 +99,7 @@ pub(crate) fn stand(table: &[u32], u: Node, v: Node) -> Relation
     let n = count.n;
     let cells = count.cells;
     if n == 0 {
-        return Relation {
-            number: BROKEN,
-            n,
-            above: false,
-            word: 0,
-            cells,
-        };
+        return refused(BROKEN, 0, cells);
     }
     related(table, n, u, v, cells)
 }
@@ -112,7 +107,7 @@ pub(crate) fn stand(table: &[u32], u: Node, v: Node) -> Relation
 pub(crate) fn at_or_above(table: &[u32], u: Node, v: Node) -> Answer
     ensures { λ r. ⌜ r ≡ answerFrom (now (table .entry)) (listed []) (ancestry (length (now (table .entry))) (u .0) (v .0)) ⌝ }
 {
-    let relation = stand(table, u, v);
+    let relation = relate(table, u, v);
     let cells = relation.cells;
     if relation.number != ACCEPTED {
         return Answer {

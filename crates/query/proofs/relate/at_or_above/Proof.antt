@@ -14,6 +14,6 @@ at-or-above-spec =
     tie.close
     (tie.spec
     (λ c κs. search needs)
-    (λ c. let r = c .before .before .before .stand in sym (relation-refused _ (r .result) _ _ (c .if1 .taken)) ∙ r .ensures .1 _ _)
-    (λ c. let known = c .before .before in let r = known .before .before .before .stand in sym (relation-apart _ (r .result) _ _ (known .if1 .left) (not-true _ (c .if2 .taken))) ∙ r .ensures .1 _ _)
-    (λ c. let known = c .before .before in let r = known .before .before .before .stand in sym (relation-above _ (r .result) _ _ (known .if1 .left) (not-false _ (c .if2 .left))) ∙ r .ensures .1 _ _))
+    (λ c. let r = c .before .before .before .relate in sym (relation-refused _ (r .result) _ _ (c .if1 .taken)) ∙ r .ensures .1 _ _)
+    (λ c. let known = c .before .before in let r = known .before .before .before .relate in sym (relation-apart _ (r .result) _ _ (known .if1 .left) (not-true _ (c .if2 .taken))) ∙ r .ensures .1 _ _)
+    (λ c. let known = c .before .before in let r = known .before .before .before .relate in sym (relation-above _ (r .result) _ _ (known .if1 .left) (not-false _ (c .if2 .left))) ∙ r .ensures .1 _ _))

@@ -12,7 +12,9 @@ unfolding related
 related-spec =
     tie.close
     (tie.spec
-    (λ c. (λ e. absurd (omega arith), λ above apart. unfold relatedFrom in search steps))
-    (λ c. (λ e. absurd (omega arith), λ above apart. unfold relatedFrom in search steps))
+    (λ c κs. search needs)
+    (λ c. rw (c .refused .ensures) (λ e. absurd (omega arith), λ above apart. unfold relatedFrom in search steps))
+    (λ c κs. search needs)
+    (λ c. rw (c .refused2 .ensures) (λ e. absurd (omega arith), λ above apart. unfold relatedFrom in search steps))
     (λ c κs. search needs)
     (λ c. (λ e. let known = c .compared .ensures .0 in (known .0, search needs, known .1), c .compared .ensures .1)))

@@ -1,21 +1,22 @@
--- `relate::stand` meets its contract. Assumes nothing.
+-- `relate::relate` meets its contract. Assumes nothing.
 use mathlib.Core.Path.{sym, _∙_}
 use native.Mathlib.Omega.{arith}
 use borrow.Author.Needs.{needs}
 use Rattle.query.specs.Parts.{relatedFrom}
 use Rattle.query.proofs.Opening.{open-broken}
 use Rattle.query.proofs.Relating.{opened-related}
-use Rattle.query.proofs.relate.stand.Statement.{statement}
-use Rattle.query.proofs.relate.stand.Tie as tie
+use Rattle.query.proofs.relate.relate.Statement.{statement}
+use Rattle.query.proofs.relate.relate.Tie as tie
 
-pub stand-spec : {M : Type 1} → statement M
-stand-spec =
+pub relate-spec : {M : Type 1} → statement M
+relate-spec =
     tie.close
     (tie.spec
     (λ c κs. search needs)
+    (λ c κs. search needs)
     (λ c.
-    let count = c .before .before .opened in
-    (λ e. absurd (omega arith), λ above apart. unfold relatedFrom in (sym (open-broken _ (count .result) _ (c .if1 .taken)) ∙ count .ensures .goes _)))
+    let count = c .before .before .before .opened in
+    rw (c .refused .ensures) (λ e. absurd (omega arith), λ above apart. unfold relatedFrom in (sym (open-broken _ (count .result) _ (c .before .if1 .taken)) ∙ count .ensures .goes _)))
     (λ c κs. let count = c .before .before .opened in (count .ensures .room (c .if1 .left), count .ensures .one (c .if1 .left)))
     (λ c.
     let test = c .before in
