@@ -5,7 +5,7 @@ use Prim.Native.Nat.{ℕ, zero, suc}
 use lib.Dec.{leb, ltb, eqb}
 use Rattle.base.specs.Numbers.{Outcome}
 use Rattle.answers.specs.Reading.{Reading, done, read, ifLe, ifLt, ifEq, ifNone, andThen, Within}
-use Rattle.answers.specs.Steps.{answer, counted, opened, ladder, landed, jumped, leaped, fromJump, overGroup, leftGroup, inOrder, inGroup, shaped, fromGroup, kinded, descended, deep, entered, level, climbing, rating, compared, related, ancestry, inside, deeper, strictly, branch}
+use Rattle.answers.specs.Steps.{afterClass, afterCount, opened, afterLadpos, afterAncestor, readAncestor, afterJumpDepth, fromJump, afterParentKind, afterParent, afterPosition, inGroup, afterShape, fromGroup, afterKind, ancestorAt, afterDepth, fromEntry, level, climbing, rating, compared, related, ancestry, inside, deeper, strictly, branch}
 
 -- the bound of a program from those of its parts
 pub within-done : (b : ℕ) (o : Outcome) → Within b (done o)
@@ -53,13 +53,13 @@ pub ruleset bounds = (within-done, within-read, within-le, within-lt, within-eq,
 
 -- four cells for step 4
 pub jump-within : (n d jump : ℕ) → Within 4 (fromJump n d jump)
-unfolding fromJump leaped jumped landed ladder answer Within
+unfolding fromJump afterJumpDepth readAncestor afterAncestor afterLadpos afterClass Within
 jump-within n d jump = search bounds depth 40
 
 -- ten cells for the level lookup, a climb and a rating, four for ancestry, fifteen for branch
 module _ (len : ℕ) where
-  pub look-within : (climbs : Bool) (v x : ℕ) → Within 10 (opened len (entered climbs v x))
-  unfolding opened counted entered deep descended kinded fromGroup shaped inGroup inOrder leftGroup overGroup fromJump leaped jumped landed ladder answer Within
+  pub look-within : (climbs : Bool) (v x : ℕ) → Within 10 (opened len (fromEntry climbs v x))
+  unfolding opened afterCount fromEntry afterDepth ancestorAt afterKind fromGroup afterShape inGroup afterPosition afterParent afterParentKind fromJump afterJumpDepth readAncestor afterAncestor afterLadpos afterClass Within
   look-within climbs v x = search bounds depth 40
 
   pub level-within : (v d : ℕ) → Within 10 (level len v d)
@@ -75,9 +75,9 @@ module _ (len : ℕ) where
   rating-within v d = level-within v d
 
   pub ancestry-within : (u v : ℕ) → Within 4 (ancestry len u v)
-  unfolding ancestry opened counted related compared Within
+  unfolding ancestry opened afterCount related compared Within
   ancestry-within u v = search bounds depth 40
 
   pub branch-within : (u v : ℕ) → Within 15 (branch len u v)
-  unfolding branch opened counted related compared strictly deeper inside Within
+  unfolding branch opened afterCount related compared strictly deeper inside Within
   branch-within u v = search (bounds, level-within) depth 40

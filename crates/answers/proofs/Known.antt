@@ -7,7 +7,7 @@ use Rattle.base.specs.Numbers.{Outcome, accepted, unknown, tooDeep}
 use Rattle.base.specs.Limits.{groupLimit, shapeCount, jumpRoom, microMark, depthCell, kindCell, ladposCell, orderCell, ladderCell, positionCell, shapeCell, parentCell, jumpCell, ancestorCell}
 use Rattle.shapes.specs.Climbs.{reached, localDepth, mark}
 use Rattle.answers.specs.Reading.{run, wordAt}
-use Rattle.answers.specs.Steps.{exponent, answer, ladder, landed, jumped, leaped, fromJump, overGroup, leftGroup, inOrder, inGroup, shaped, fromGroup}
+use Rattle.answers.specs.Steps.{exponent, afterClass, afterLadpos, afterAncestor, readAncestor, afterJumpDepth, fromJump, afterParentKind, afterParent, afterPosition, inGroup, afterShape, fromGroup}
 use Rattle.answers.proofs.Runs.{runs}
 
 module _ (t : List ℕ) (n d u : ℕ) where
@@ -18,7 +18,7 @@ module _ (t : List ℕ) (n d u : ℕ) where
       → wordAt t (ladposCell n w) ≡ index → top - d - 2 ^ e ≤ index → index - (top - d - 2 ^ e) < 2 * n
       → wordAt t (ladderCell n (index - (top - d - 2 ^ e))) ≡ u → u < n
       → run t (fromJump n d jump) ≡ accepted u
-  unfolding fromJump leaped jumped landed ladder answer
+  unfolding fromJump afterJumpDepth readAncestor afterAncestor afterLadpos afterClass
   jump-known jump top e w index h0 h1 h2 h3 h4 h5 h6 h7 h8 h9 h10 h11 = search runs depth 30
 
   -- step 3: the group's shape, and l a local number of it
@@ -28,14 +28,14 @@ module _ (t : List ℕ) (n d u : ℕ) where
         → wordAt t (positionCell n group) ≡ position → position + mark (reached groupLimit shape local (depth - d)) < n
         → wordAt t (orderCell n (position + mark (reached groupLimit shape local (depth - d)))) ≡ u → u < n
         → run t (fromGroup n d depth group local) ≡ accepted u
-    unfolding fromGroup shaped inGroup inOrder answer
+    unfolding fromGroup afterShape inGroup afterPosition afterClass
     group-known position h4 h5 h6 h7 h8 = search runs depth 30
 
     -- the answer is the group's parent
     pub parent-known : localDepth groupLimit shape local < depth - d → wordAt t (parentCell n group) ≡ u → u < n
         → depth - localDepth groupLimit shape local - 1 ≡ d
         → run t (fromGroup n d depth group local) ≡ accepted u
-    unfolding fromGroup shaped inGroup leftGroup
+    unfolding fromGroup afterShape inGroup afterParent
     parent-known h4 h5 h6 h7 = search runs depth 30
 
     -- the answer is above the group's parent p
@@ -44,5 +44,5 @@ module _ (t : List ℕ) (n d u : ℕ) where
         → wordAt t (kindCell n p) ≡ kind → kind < microMark
         → run t (fromJump n d kind) ≡ accepted u
         → run t (fromGroup n d depth group local) ≡ accepted u
-    unfolding fromGroup shaped inGroup leftGroup overGroup
+    unfolding fromGroup afterShape inGroup afterParent afterParentKind
     above-known p kind h4 h5 h6 h7 h8 h9 h10 = search runs depth 30

@@ -10,7 +10,7 @@ use Rattle.base.specs.Numbers.{Outcome}
 use Rattle.base.specs.Numbers.{broken as brokenTable}
 use Rattle.base.proofs.Lists.{clash}
 use Rattle.answers.specs.Reading.{Reading, done, read, ifLe, ifLt, ifEq, ifNone, andThen, wordAt, run}
-use Rattle.answers.specs.Steps.{answer, counted, opened, ladder, landed, jumped, leaped, fromJump, overGroup, leftGroup, inOrder, inGroup, shaped, fromGroup, kinded, descended, deep, entered, level, climbing, rating, compared, related, ancestry, inside, deeper, strictly, branch}
+use Rattle.answers.specs.Steps.{afterClass, afterCount, opened, afterLadpos, afterAncestor, readAncestor, afterJumpDepth, fromJump, afterParentKind, afterParent, afterPosition, inGroup, afterShape, fromGroup, afterKind, ancestorAt, afterDepth, fromEntry, level, climbing, rating, compared, related, ancestry, inside, deeper, strictly, branch}
 
 -- every end of a program has a number of the list
 unfoldable pub Ends : List ℕ → Reading → Type 0
@@ -59,8 +59,8 @@ abbrev pub lookupNumbers : List ℕ
 lookupNumbers = 0 ∷ 7 ∷ 8 ∷ 9 ∷ []
 
 module _ (len : ℕ) where
-  looked : (climbs : Bool) (v x : ℕ) → Ends lookupNumbers (opened len (entered climbs v x))
-  unfolding opened counted entered deep descended kinded fromGroup shaped inGroup inOrder leftGroup overGroup fromJump leaped jumped landed ladder answer Ends some?
+  looked : (climbs : Bool) (v x : ℕ) → Ends lookupNumbers (opened len (fromEntry climbs v x))
+  unfolding opened afterCount fromEntry afterDepth ancestorAt afterKind fromGroup afterShape inGroup afterPosition afterParent afterParentKind fromJump afterJumpDepth readAncestor afterAncestor afterLadpos afterClass Ends some?
   looked climbs v x = search numbers depth 40
 
   pub level-numbers : (v d : ℕ) → Ends lookupNumbers (level len v d)
@@ -76,7 +76,7 @@ module _ (len : ℕ) where
   rating-numbers v d = level-numbers v d
 
   pub ancestry-numbers : (u v : ℕ) → Ends (0 ∷ 7 ∷ 9 ∷ []) (ancestry len u v)
-  unfolding ancestry opened counted related compared Ends some?
+  unfolding ancestry opened afterCount related compared Ends some?
   ancestry-numbers u v = search numbers depth 40
 
 -- what is made of a program's outcome has its own numbers
@@ -101,7 +101,7 @@ inside-ends o h = go (eqb (o .number) 0) (eqb (o .number) 7) (eqb (o .number) 8)
     go false false false false p q r h = clash h
 
 pub branch-numbers : (len u v : ℕ) → Ends branchNumbers (branch len u v)
-unfolding branch opened counted related compared strictly deeper Ends some?
+unfolding branch opened afterCount related compared strictly deeper Ends some?
 branch-numbers len u v =
     let inner : (d : ℕ) → Ends branchNumbers (andThen (level len v d) inside) =
     λ d. ends-then lookupNumbers branchNumbers (level len v d) inside (level-numbers len v d) inside-ends in

@@ -19,81 +19,81 @@ unfoldable pub exponent : ℕ → Option ℕ
 exponent x = first (λ e. leb (2 ^ e) x && ltb x (2 ^ suc e)) (below 32 (λ e. e))
 
 -- a word that is to be the answer is an entry
-unfoldable pub answer : ℕ → ℕ → Reading
-answer n w = ifLe n w broken (done (accepted w))
+unfoldable pub afterClass : ℕ → ℕ → Reading
+afterClass n w = ifLe n w broken (done (accepted w))
 
 -- step 1: a table under 4 words, or with cell 0 zero or over 1,048,576, or shorter than W, is broken. Then `next`, with the number of entries
-unfoldable pub counted : ℕ → ℕ → (ℕ → Reading) → Reading
-counted len n next = ifEq n 0 broken (ifLt mostEntries n broken (ifLt len (tableWords n) broken (next n)))
+unfoldable pub afterCount : ℕ → ℕ → (ℕ → Reading) → Reading
+afterCount len n next = ifEq n 0 broken (ifLt mostEntries n broken (ifLt len (tableWords n) broken (next n)))
 
 unfoldable pub opened : ℕ → (ℕ → Reading) → Reading
-opened len next = ifLt len 4 broken (read 0 (λ word. counted len (entriesOf word) next))
+opened len next = ifLt len 4 broken (read 0 (λ word. afterCount len (entriesOf word) next))
 
 -- step 4, last read: LADDERS at w's index less the climbs still missing
-unfoldable pub ladder : ℕ → ℕ → ℕ → Reading
-ladder n missing index =
+unfoldable pub afterLadpos : ℕ → ℕ → ℕ → Reading
+afterLadpos n missing index =
     ifLt index missing broken
     (ifLe (2 * n) (index - missing) broken
-    (read (ladderCell n (index - missing)) (answer n)))
+    (read (ladderCell n (index - missing)) (afterClass n)))
 
 -- step 4: LADPOS of w
-unfoldable pub landed : ℕ → ℕ → ℕ → Reading
-landed n missing w = ifLe n w broken (read (ladposCell n w) (ladder n missing))
+unfoldable pub afterAncestor : ℕ → ℕ → ℕ → Reading
+afterAncestor n missing w = ifLe n w broken (read (ladposCell n w) (afterLadpos n missing))
 
 -- step 4: the ancestor for e, called w, where the jump entry is x above the answer
-unfoldable pub jumped : ℕ → ℕ → ℕ → ℕ → Reading
-jumped n jump x e = read (ancestorCell n jump e) (landed n (x - 2 ^ e))
+unfoldable pub readAncestor : ℕ → ℕ → ℕ → ℕ → Reading
+readAncestor n jump x e = read (ancestorCell n jump e) (afterAncestor n (x - 2 ^ e))
 
 -- step 4: the jump entry's depth
-unfoldable pub leaped : ℕ → ℕ → ℕ → ℕ → Reading
-leaped n d jump depth =
+unfoldable pub afterJumpDepth : ℕ → ℕ → ℕ → ℕ → Reading
+afterJumpDepth n d jump depth =
     ifLe n depth broken
     (ifLt depth d broken
-    (ifNone (exponent (depth - d)) broken (jumped n jump (depth - d))))
+    (ifNone (exponent (depth - d)) broken (readAncestor n jump (depth - d))))
 
 unfoldable pub fromJump : ℕ → ℕ → ℕ → Reading
-fromJump n d jump = ifLe (jumpRoom n) jump broken (read (jumpCell n jump) (leaped n d jump))
+fromJump n d jump = ifLe (jumpRoom n) jump broken (read (jumpCell n jump) (afterJumpDepth n d jump))
 
 -- step 3: KIND of the group's parent, which is not micro
-unfoldable pub overGroup : ℕ → ℕ → ℕ → Reading
-overGroup n d kind = ifLe microMark kind broken (fromJump n d kind)
+unfoldable pub afterParentKind : ℕ → ℕ → ℕ → Reading
+afterParentKind n d kind = ifLe microMark kind broken (fromJump n d kind)
 
 -- step 3: the group's parent p
-unfoldable pub leftGroup : ℕ → ℕ → ℕ → ℕ → Reading
-leftGroup n d depth p = ifLe n p broken (ifEq depth d (done (accepted p)) (read (kindCell n p) (overGroup n d)))
+unfoldable pub afterParent : ℕ → ℕ → ℕ → ℕ → Reading
+afterParent n d depth p = ifLe n p broken (ifEq depth d (done (accepted p)) (read (kindCell n p) (afterParentKind n d)))
 
 -- step 3: the group's position, then ORDER at that position plus the local number reached
-unfoldable pub inOrder : ℕ → ℕ → ℕ → Reading
-inOrder n local position = ifLe n (position + local) broken (read (orderCell n (position + local)) (answer n))
+unfoldable pub afterPosition : ℕ → ℕ → ℕ → Reading
+afterPosition n local position = ifLe n (position + local) broken (read (orderCell n (position + local)) (afterClass n))
 
 -- step 3: k is v's depth in its group
 unfoldable pub inGroup : ℕ → ℕ → ℕ → ℕ → ℕ → ℕ → Reading
 inGroup n d depth group local shape =
     let k = localDepth groupLimit shape local in
     ifLe (depth - d) k
-    (read (positionCell n group) (inOrder n (mark (reached groupLimit shape local (depth - d)))))
-    (read (parentCell n group) (leftGroup n d (depth - k - 1)))
+    (read (positionCell n group) (afterPosition n (mark (reached groupLimit shape local (depth - d)))))
+    (read (parentCell n group) (afterParent n d (depth - k - 1)))
 
 -- step 3: the shape
-unfoldable pub shaped : ℕ → ℕ → ℕ → ℕ → ℕ → ℕ → Reading
-shaped n d depth group local shape =
+unfoldable pub afterShape : ℕ → ℕ → ℕ → ℕ → ℕ → ℕ → Reading
+afterShape n d depth group local shape =
     ifLe shapeCount shape broken
     (ifNone (reached groupLimit shape local 0) broken
     (λ l. inGroup n d depth group local shape))
 
 unfoldable pub fromGroup : ℕ → ℕ → ℕ → ℕ → ℕ → Reading
-fromGroup n d depth group local = ifLe n group broken (read (shapeCell n group) (shaped n d depth group local))
+fromGroup n d depth group local = ifLe n group broken (read (shapeCell n group) (afterShape n d depth group local))
 
 -- step 3: KIND of v
-unfoldable pub kinded : ℕ → ℕ → ℕ → ℕ → Reading
-kinded n d depth kind =
+unfoldable pub afterKind : ℕ → ℕ → ℕ → ℕ → Reading
+afterKind n d depth kind =
     ifLe microMark kind
     (fromGroup n d depth ((kind - microMark) / localSpan) ((kind - microMark) % localSpan))
     (fromJump n d kind)
 
 -- step 2, after its tests: the ancestor at depth d of v, whose depth is not less
-unfoldable pub descended : ℕ → ℕ → ℕ → ℕ → Reading
-descended n v d depth = ifEq depth d (done (accepted v)) (read (kindCell n v) (kinded n d depth))
+unfoldable pub ancestorAt : ℕ → ℕ → ℕ → ℕ → Reading
+ancestorAt n v d depth = ifEq depth d (done (accepted v)) (read (kindCell n v) (afterKind n d depth))
 
 -- the depth that is wanted of an entry's `depth`, where x is asked: depth x, or that x climbs up
 abbrev pub wanted : Bool → ℕ → ℕ → ℕ
@@ -101,19 +101,19 @@ wanted false x depth = x
 wanted true x depth = depth - x
 
 -- step 2: `climbs` tells whether x counts climbs. Either way an x over the depth is too deep
-unfoldable pub deep : ℕ → Bool → ℕ → ℕ → ℕ → Reading
-deep n climbs v x depth = ifLe n depth broken (ifLt depth x (done (tooDeep v)) (descended n v (wanted climbs x depth) depth))
+unfoldable pub afterDepth : ℕ → Bool → ℕ → ℕ → ℕ → Reading
+afterDepth n climbs v x depth = ifLe n depth broken (ifLt depth x (done (tooDeep v)) (ancestorAt n v (wanted climbs x depth) depth))
 
-unfoldable pub entered : Bool → ℕ → ℕ → ℕ → Reading
-entered climbs v x n = ifLe n v (done (unknown v)) (read (depthCell n v) (deep n climbs v x))
+unfoldable pub fromEntry : Bool → ℕ → ℕ → ℕ → Reading
+fromEntry climbs v x n = ifLe n v (done (unknown v)) (read (depthCell n v) (afterDepth n climbs v x))
 
 -- the level lookup (v, d)
 unfoldable pub level : ℕ → ℕ → ℕ → Reading
-level len v d = opened len (entered false v d)
+level len v d = opened len (fromEntry false v d)
 
 -- climbing k up from v: cells and answer of depth minus k
 unfoldable pub climbing : ℕ → ℕ → ℕ → Reading
-climbing len v k = opened len (entered true v k)
+climbing len v k = opened len (fromEntry true v k)
 
 -- the rating lookup of v at rating level d: as the level lookup
 unfoldable pub rating : ℕ → ℕ → ℕ → Reading

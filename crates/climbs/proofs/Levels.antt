@@ -22,7 +22,7 @@ use Rattle.table.specs.Ladders.{ladders, ladPos}
 use Rattle.table.specs.Groups.{micro, jumpNodes, microKind, macroKind, kind}
 use Rattle.table.specs.Preparing.{Prepared}
 use Rattle.answers.specs.Reading.{done, read, ifEq, run, wordAt}
-use Rattle.answers.specs.Steps.{exponent, fromJump, fromGroup, kinded, descended}
+use Rattle.answers.specs.Steps.{exponent, fromJump, fromGroup, afterKind, ancestorAt}
 use Rattle.answers.proofs.Exponent.{exponent-iff, exponent-low, exponent-some}
 use Rattle.answers.proofs.Runs.{run-done, run-read, run-le, run-not-le, run-eq, run-not-eq}
 use Rattle.answers.proofs.Known.{jump-known, group-known, parent-known, above-known}
@@ -148,8 +148,8 @@ module _ (ps t : List ℕ) (p : Prepared ps t) where
 
   -- step 3, by KIND
   kinded-run : (v d u : ℕ) → v < length ps → d < depth ps v → up ps (depth ps v - d) v ≡ some u → (b : Bool) → micro groupLimit ps v ≡ b
-      → run t (kinded (length ps) d (depth ps v) (kind groupLimit ps v)) ≡ accepted u
-  unfolding kinded
+      → run t (afterKind (length ps) d (depth ps v) (kind groupLimit ps v)) ≡ accepted u
+  unfolding afterKind
   kinded-run v d u h b q true m =
       let (r, g, l, i) = grouped ps (small ps t p) (tree ps t p) groupLimit v h m in
       let k = kind groupLimit ps v in
@@ -166,11 +166,11 @@ module _ (ps t : List ℕ) (p : Prepared ps t) where
       run-not-le t (accepted u) microMark k _ _ (omega (arith, few ps t p)) (rw e (jump-run v d u h m b q))
 
   -- steps 2 to 4: the ancestor of v at depth d
-  pub descended-run : (v d u : ℕ) → v < length ps → d ≤ depth ps v → up ps (depth ps v - d) v ≡ some u → run t (descended (length ps) v d (depth ps v)) ≡ accepted u
-  unfolding descended up
-  descended-run v d u h b q = go (ℕ-discrete (depth ps v) d)
+  pub ancestor-at-run : (v d u : ℕ) → v < length ps → d ≤ depth ps v → up ps (depth ps v - d) v ≡ some u → run t (ancestorAt (length ps) v d (depth ps v)) ≡ accepted u
+  unfolding ancestorAt up
+  ancestor-at-run v d u h b q = go (ℕ-discrete (depth ps v) d)
     where
-      go : Dec (depth ps v ≡ d) → run t (ifEq (depth ps v) d (done (accepted v)) (read (kindCell (length ps) v) (kinded (length ps) d (depth ps v)))) ≡ accepted u
+      go : Dec (depth ps v ≡ d) → run t (ifEq (depth ps v) d (done (accepted v)) (read (kindCell (length ps) v) (afterKind (length ps) d (depth ps v)))) ≡ accepted u
       go (yes z) =
           let y : depth ps v - d ≡ 0 = omega arith in
           run-eq t (accepted u) (depth ps v) d _ _ z (ap (λ w. run t (done (accepted w))) (entry-some ps v u (rw y at q) .0) ∙ run-done t (accepted u))

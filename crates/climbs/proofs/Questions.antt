@@ -23,15 +23,15 @@ use Rattle.tree.proofs.Intervals.{depth-less, interval}
 use Rattle.tree.proofs.Ancestry.{on-climb, towards, towards-none, strictly-deeper}
 use Rattle.table.specs.Preparing.{Prepared}
 use Rattle.answers.specs.Reading.{Reading, done, read, ifLe, ifLt, ifEq, run}
-use Rattle.answers.specs.Steps.{counted, opened, descended, wanted, deep, entered, level, climbing, rating, compared, related, ancestry, inside, deeper, strictly, branch}
+use Rattle.answers.specs.Steps.{afterCount, opened, ancestorAt, wanted, afterDepth, fromEntry, level, climbing, rating, compared, related, ancestry, inside, deeper, strictly, branch}
 use Rattle.answers.proofs.Runs.{run-done, run-read, run-le, run-not-le, run-lt, run-not-lt, run-eq, run-not-eq, run-then}
 use Rattle.climbs.proofs.TableWords.{many, few, tree, small, count-word, depth-word, pre-word, size-word}
-use Rattle.climbs.proofs.Levels.{descended-run}
+use Rattle.climbs.proofs.Levels.{ancestor-at-run}
 
 module _ (ps t : List ℕ) (p : Prepared ps t) where
   -- step 1: a prepared table is not broken
   pub opened-run : (o : Outcome) (next : ℕ → Reading) → run t (next (length ps)) ≡ o → run t (opened (length t) next) ≡ o
-  unfolding opened counted
+  unfolding opened afterCount
   opened-run o next h =
       let n = length ps in
       let room = p .long in
@@ -53,18 +53,18 @@ module _ (ps t : List ℕ) (p : Prepared ps t) where
   module _ (v x : ℕ) (climbs : Bool) (found : Option ℕ) where
     entered-run : (v < length ps → depth ps v < x → found ≡ none)
         → (v < length ps → x ≤ depth ps v → (wanted climbs x (depth ps v) ≤ depth ps v) × (up ps (depth ps v - wanted climbs x (depth ps v)) v ≡ found))
-        → run t (opened (length t) (entered climbs v x)) ≡ known ps v (Option·elim found (tooDeep v) accepted)
-    unfolding entered deep Option·elim
+        → run t (opened (length t) (fromEntry climbs v x)) ≡ known ps v (Option·elim found (tooDeep v) accepted)
+    unfolding fromEntry afterDepth Option·elim
     entered-run past reach =
-        opened-run _ (entered climbs v x)
+        opened-run _ (fromEntry climbs v x)
         (known-run v (Option·elim found (tooDeep v) accepted) _ (λ h. run-read t _ (depthCell (length ps) v) (depth ps v) _ (depth-word ps t p v h)
         (run-not-le t _ (length ps) (depth ps v) _ _ (depth-less ps (small ps t p) (tree ps t p) v h) (go h (decLe x (depth ps v))))))
       where
-        go : v < length ps → Dec (x ≤ depth ps v) → run t (ifLt (depth ps v) x (done (tooDeep v)) (descended (length ps) v (wanted climbs x (depth ps v)) (depth ps v))) ≡ Option·elim found (tooDeep v) accepted
+        go : v < length ps → Dec (x ≤ depth ps v) → run t (ifLt (depth ps v) x (done (tooDeep v)) (ancestorAt (length ps) v (wanted climbs x (depth ps v)) (depth ps v))) ≡ Option·elim found (tooDeep v) accepted
         go h (yes b) =
             let (w, q) = reach h b in
             let (u, s) = up-some ps (small ps t p) (tree ps t p) (depth ps v - wanted climbs x (depth ps v)) v h (omega arith) in
-            run-not-lt t _ (depth ps v) x _ _ b (descended-run ps t p v (wanted climbs x (depth ps v)) u h w s ∙ ap (λ o. Option·elim o (tooDeep v) accepted) (sym s ∙ q))
+            run-not-lt t _ (depth ps v) x _ _ b (ancestor-at-run ps t p v (wanted climbs x (depth ps v)) u h w s ∙ ap (λ o. Option·elim o (tooDeep v) accepted) (sym s ∙ q))
         go h (no b) = rw (past h (omega arith)) (run-lt t (tooDeep v) (depth ps v) x _ _ (omega arith) (run-done t (tooDeep v)))
 
   -- level: the level ancestor

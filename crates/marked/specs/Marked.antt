@@ -20,7 +20,7 @@ use Rattle.table.specs.Table.{header, entrySections, laidSections, tableOf}
 use Rattle.table.specs.Preparing.{countFault, tableFault, spaceFault, callFault, refusal, preparing}
 use Rattle.answers.specs.Reading.{run, trace, ifLe, ifLt, ifEq, ifNone}
 use Rattle.answers.specs.Answers.{listed, answerTo}
-use Rattle.answers.specs.Steps.{exponent, answer, counted, opened, ladder, landed, jumped, leaped, fromJump, overGroup, leftGroup, inOrder, inGroup, shaped, fromGroup, kinded, descended, deep, entered, level}
+use Rattle.answers.specs.Steps.{exponent, afterClass, afterCount, opened, afterLadpos, afterAncestor, readAncestor, afterJumpDepth, fromJump, afterParentKind, afterParent, afterPosition, inGroup, afterShape, fromGroup, afterKind, ancestorAt, afterDepth, fromEntry, level}
 use Rattle.answers.specs.declared.Answer.{Answer}
 
 -- what is asked, and what is said
@@ -110,5 +110,5 @@ marked =
     ∷ []
 
 marked-entries : map (λ c. say (c .asked)) marked ≡ map (λ c. c .said) marked
-unfolding say marked chain chainTable look turn flatten flatMap Option·elim bind orElse each keep first index every some? places padded entry parent climbUp climbWithin depth plant grow preorder forestSize forestHeight tallest spine pathTop isStray meetsTop listFault walkRound shapeNumber parentList reached localDepth nearest ladders ownPath ladPos micro groupRoot groups groupWords jumpNode jumpRecord microKind macroKind kind header entrySections laidSections tableOf countFault tableFault spaceFault callFault refusal preparing run trace ifLe ifLt ifEq ifNone listed answerTo exponent answer counted opened ladder landed jumped leaped fromJump overGroup leftGroup inOrder inGroup shaped fromGroup kinded descended deep entered level
+unfolding say marked chain chainTable look turn flatten flatMap Option·elim bind orElse each keep first index every some? places padded entry parent climbUp climbWithin depth plant grow preorder forestSize forestHeight tallest spine pathTop isStray meetsTop listFault walkRound shapeNumber parentList reached localDepth nearest ladders ownPath ladPos micro groupRoot groups groupWords jumpNode jumpRecord microKind macroKind kind header entrySections laidSections tableOf countFault tableFault spaceFault callFault refusal preparing run trace ifLe ifLt ifEq ifNone listed answerTo exponent afterClass afterCount opened afterLadpos afterAncestor readAncestor afterJumpDepth fromJump afterParentKind afterParent afterPosition inGroup afterShape fromGroup afterKind ancestorAt afterDepth fromEntry level
 marked-entries = refl

@@ -10,7 +10,7 @@ use Rattle.base.specs.Limits.{Sized, mostEntries, tableWords}
 use Rattle.base.specs.Numbers.{Outcome}
 use Rattle.answers.specs.Reading.{Reading, ifLt, ifEq}
 use Rattle.answers.specs.Answers.{answerFrom}
-use Rattle.answers.specs.Steps.{counted}
+use Rattle.answers.specs.Steps.{afterCount}
 use Rattle.answers.specs.declared.Cells.{Cells}
 use Rattle.query.specs.Parts.{countFrom, openFrom}
 use Rattle.query.specs.declared.look.Count.{Count}
@@ -39,12 +39,12 @@ count-room t n h = go (decLt mostEntries n) (decLt (length t) (tableWords n))
     go (no a) (no b) = rw (count-fits (length t) n (omega arith) (omega arith)) (record { few = omega arith; room = omega arith })
 
 -- a program goes on with the count, or the table is broken
-pub count-goes : (t : List ℕ) (cs : Cells) (n : ℕ) (next : ℕ → Reading) → openFrom t (record { n = countFrom (length t) n; cells = cs }) next ≡ answerFrom t cs (counted (length t) n next)
-unfolding openFrom counted answerFrom
+pub count-goes : (t : List ℕ) (cs : Cells) (n : ℕ) (next : ℕ → Reading) → openFrom t (record { n = countFrom (length t) n; cells = cs }) next ≡ answerFrom t cs (afterCount (length t) n next)
+unfolding openFrom afterCount answerFrom
 count-goes t cs n next = go (ℕ-discrete n 0) (decLt mostEntries n) (decLt (length t) (tableWords n))
   where
     go : Dec (n ≡ 0) → Dec (mostEntries < n) → Dec (length t < tableWords n)
-        → openFrom t (record { n = countFrom (length t) n; cells = cs }) next ≡ answerFrom t cs (counted (length t) n next)
+        → openFrom t (record { n = countFrom (length t) n; cells = cs }) next ≡ answerFrom t cs (afterCount (length t) n next)
     go (no z) (yes a) b = eq-no _ _ _ _ _ _ _ z (lt-yes _ _ _ _ _ _ _ a (rw (count-many (length t) n a)))
     go (no z) (no a) (yes b) = eq-no _ _ _ _ _ _ _ z (lt-no _ _ _ _ _ _ _ (omega arith) (lt-yes _ _ _ _ _ _ _ b (rw (count-short (length t) n (omega arith) b))))
     go (no z) (no a) (no b) =

@@ -20,6 +20,45 @@ use base::numbers::ACCEPTED;
 use base::numbers::NOT_ABOVE;
 use base::numbers::TOO_DEEP;
 
+pub(crate) fn child_towards(table: &[u32], u: Node, v: Node) -> Answer
+    ensures { λ r. ⌜ r ≡ answerFrom (now (table .entry)) (listed []) (branch (length (now (table .entry))) (u .0) (v .0)) ⌝ }
+{
+    let relation = relate(table, u, v);
+    let cells = relation.cells;
+    if relation.number != ACCEPTED {
+        return Answer {
+            number: relation.number,
+            word: relation.word,
+            cells,
+        };
+    }
+    if !relation.above {
+        return Answer {
+            number: NOT_ABOVE,
+            word: u.0,
+            cells,
+        };
+    }
+    strictly(table, relation.n, u, v, cells)
+}
+
+pub(crate) fn strictly(table: &[u32], n: u32, u: Node, v: Node, cells: Cells) -> Answer
+    requires { ⌜ (Sized (now table) n) × (u .0 < n) × (Held 4 cells) ⌝ }
+    ensures { λ r. ⌜ r ≡ answerFrom (now (table .entry)) cells (strictly (length (now (table .entry))) (u .0) (v .0) n) ⌝ }
+{
+    if u.0 == v.0 {
+        return Answer {
+            number: NOT_ABOVE,
+            word: u.0,
+            cells,
+        };
+    }
+    let got = read(table, HEADER_CELLS + u.0, cells);
+    let depth = got.word;
+    let more = got.cells;
+    deeper(table, n, v, depth, more)
+}
+
 // An 8 of the level lookup is given as 9.
 fn deeper(table: &[u32], n: u32, v: Node, depth: u32, cells: Cells) -> Answer
     requires { ⌜ (Sized (now table) n) × (Held 5 cells) ⌝ }
@@ -41,43 +80,4 @@ fn deeper(table: &[u32], n: u32, v: Node, depth: u32, cells: Cells) -> Answer
         word: inner.word,
         cells: all,
     }
-}
-
-pub(crate) fn strictly(table: &[u32], n: u32, u: Node, v: Node, cells: Cells) -> Answer
-    requires { ⌜ (Sized (now table) n) × (u .0 < n) × (Held 4 cells) ⌝ }
-    ensures { λ r. ⌜ r ≡ answerFrom (now (table .entry)) cells (strictly (length (now (table .entry))) (u .0) (v .0) n) ⌝ }
-{
-    if u.0 == v.0 {
-        return Answer {
-            number: NOT_ABOVE,
-            word: u.0,
-            cells,
-        };
-    }
-    let got = read(table, HEADER_CELLS + u.0, cells);
-    let depth = got.word;
-    let more = got.cells;
-    deeper(table, n, v, depth, more)
-}
-
-pub(crate) fn child_towards(table: &[u32], u: Node, v: Node) -> Answer
-    ensures { λ r. ⌜ r ≡ answerFrom (now (table .entry)) (listed []) (branch (length (now (table .entry))) (u .0) (v .0)) ⌝ }
-{
-    let relation = relate(table, u, v);
-    let cells = relation.cells;
-    if relation.number != ACCEPTED {
-        return Answer {
-            number: relation.number,
-            word: relation.word,
-            cells,
-        };
-    }
-    if !relation.above {
-        return Answer {
-            number: NOT_ABOVE,
-            word: u.0,
-            cells,
-        };
-    }
-    strictly(table, relation.n, u, v, cells)
 }

@@ -5,13 +5,13 @@ ghost use lib.ListN.{getD};
 ghost use lib.Dec.{eqb};
 ghost use Rattle.base.specs.Limits.{Sized};
 ghost use Rattle.answers.specs.Answers.{answerFrom};
-ghost use Rattle.answers.specs.Steps.{overGroup, leftGroup, inOrder, inGroup, shaped, fromGroup};
+ghost use Rattle.answers.specs.Steps.{afterParentKind, afterParent, afterPosition, inGroup, afterShape, fromGroup};
 ghost use Rattle.query.specs.Parts.{Held, InGroup};
 use crate::joining::with_four;
 use crate::jump::from_jump;
+use crate::reading::after_class;
 use crate::reading::broken;
 use crate::reading::read;
-use crate::reading::settled;
 use answers::Answer;
 use answers::Cells;
 use base::Node;
@@ -27,71 +27,56 @@ use base::limits::SHAPE_COUNT;
 use base::numbers::ACCEPTED;
 use shapes::row;
 
-// KIND of the group's parent, which is not micro: step 4 from there. Six cells were read.
-fn over_group(table: &[u32], n: u32, d: u32, kind: u32, cells: Cells) -> Answer
-    requires { ⌜ (Sized (now table) n) × (Held 6 cells) ⌝ }
-    ensures { λ r. ⌜ r ≡ answerFrom (now (table .entry)) cells (overGroup n d kind) ⌝ }
+pub(crate) fn from_group(
+    table: &[u32],
+    n: u32,
+    d: u32,
+    depth: u32,
+    group: u32,
+    local: u32,
+    cells: Cells,
+) -> Answer
+    requires { ⌜ (Sized (now table) n) × (d < depth) × (Held 3 cells) ⌝ }
+    ensures { λ r. ⌜ r ≡ answerFrom (now (table .entry)) cells (fromGroup n d depth group local) ⌝ }
 {
-    if MICRO_MARK <= kind {
+    if n <= group {
         return broken(cells);
     }
-    let a = from_jump(table, n, d, kind);
-    let more = a.cells;
-    Answer {
-        number: a.number,
-        word: a.word,
-        cells: with_four(cells, 6, more),
-    }
-}
-
-// The group's parent p; `here` tells whether p has the depth asked.
-fn left_group(table: &[u32], n: u32, d: u32, here: bool, p: Node, cells: Cells) -> Answer
-    requires { ⌜ (Sized (now table) n) × (Held 5 cells) ⌝ }
-    ensures { λ r. ⌜ ((depth : ℕ) → here ≡ eqb depth d → r ≡ answerFrom (now (table .entry)) cells (leftGroup n d depth (p .0))) ⌝ }
-{
-    if n <= p.0 {
-        return broken(cells);
-    }
-    if here {
-        return Answer {
-            number: ACCEPTED,
-            word: p.0,
-            cells,
-        };
-    }
-    let got = read(table, HEADER_CELLS + n + p.0, cells);
-    let kind = got.word;
+    let got = read(
+        table,
+        HEADER_CELLS + GROUPS * n + GROUP_WORDS * group + 1,
+        cells,
+    );
+    let shape = got.word;
     let more = got.cells;
-    over_group(table, n, d, kind, more)
+    after_shape(table, n, d, depth, group, local, shape, more)
 }
 
-// ORDER at the group's position plus the local number reached. The sum is tested before it is made, so that it does not wrap.
-fn in_order(table: &[u32], n: u32, local: u32, position: Position, cells: Cells) -> Answer
-    requires { ⌜ (Sized (now table) n) × (local < 256) ⌝ }
-    ensures { λ r. ⌜ r ≡ answerFrom (now (table .entry)) cells (inOrder n local (position .0)) ⌝ }
+// The shape, and the local number's row in it.
+fn after_shape(
+    table: &[u32],
+    n: u32,
+    d: u32,
+    depth: u32,
+    group: u32,
+    local: u32,
+    shape: u32,
+    cells: Cells,
+) -> Answer
+    requires { ⌜ (Sized (now table) n) × (group < n) × (d < depth) × (Held 4 cells) ⌝ }
+    ensures { λ r. ⌜ r ≡ answerFrom (now (table .entry)) cells (afterShape n d depth group local shape) ⌝ }
 {
-    if n <= position.0 {
+    if SHAPE_COUNT <= shape {
         return broken(cells);
     }
-    let at = Position(position.0 + local);
-    if n <= at.0 {
+    if GROUP_LIMIT <= local {
         return broken(cells);
     }
-    let got = read(table, HEADER_CELLS + ORDER * n + at.0, cells);
-    let word = got.word;
-    let more = got.cells;
-    settled(n, word, more)
-}
-
-// The local number that k climbs reach by a row of the shape table, 255 where there is none.
-fn reached(row: [u8; LOCAL_NUMBERS], k: u32) -> u8
-    ensures { λ r. ⌜ r ≡ getD row k 255 ⌝ }
-{
-    if k < GROUP_LIMIT {
-        row[k as usize]
-    } else {
-        255
+    let row = row(shape, local);
+    if row[0] == 255 {
+        return broken(cells);
     }
+    in_group(table, n, d, depth, group, shape, local, row, cells)
 }
 
 // Within the group where the climbs asked end there, else from the group's parent.
@@ -120,7 +105,7 @@ fn in_group(
         );
         let p = Node(got.word);
         let more = got.cells;
-        return left_group(table, n, d, before != 255, p, more);
+        return after_parent(table, n, d, before != 255, p, more);
     }
     let got = read(
         table,
@@ -129,57 +114,72 @@ fn in_group(
     );
     let position = Position(got.word);
     let more = got.cells;
-    in_order(table, n, to as u32, position, more)
+    after_position(table, n, to as u32, position, more)
 }
 
-// The shape, and the local number's row in it.
-fn shaped(
-    table: &[u32],
-    n: u32,
-    d: u32,
-    depth: u32,
-    group: u32,
-    local: u32,
-    shape: u32,
-    cells: Cells,
-) -> Answer
-    requires { ⌜ (Sized (now table) n) × (group < n) × (d < depth) × (Held 4 cells) ⌝ }
-    ensures { λ r. ⌜ r ≡ answerFrom (now (table .entry)) cells (shaped n d depth group local shape) ⌝ }
+// The local number that k climbs reach by a row of the shape table, 255 where there is none.
+fn reached(row: [u8; LOCAL_NUMBERS], k: u32) -> u8
+    ensures { λ r. ⌜ r ≡ getD row k 255 ⌝ }
 {
-    if SHAPE_COUNT <= shape {
-        return broken(cells);
+    if k < GROUP_LIMIT {
+        row[k as usize]
+    } else {
+        255
     }
-    if GROUP_LIMIT <= local {
-        return broken(cells);
-    }
-    let row = row(shape, local);
-    if row[0] == 255 {
-        return broken(cells);
-    }
-    in_group(table, n, d, depth, group, shape, local, row, cells)
 }
 
-pub(crate) fn from_group(
-    table: &[u32],
-    n: u32,
-    d: u32,
-    depth: u32,
-    group: u32,
-    local: u32,
-    cells: Cells,
-) -> Answer
-    requires { ⌜ (Sized (now table) n) × (d < depth) × (Held 3 cells) ⌝ }
-    ensures { λ r. ⌜ r ≡ answerFrom (now (table .entry)) cells (fromGroup n d depth group local) ⌝ }
+// ORDER at the group's position plus the local number reached. The sum is tested before it is made, so that it does not wrap.
+fn after_position(table: &[u32], n: u32, local: u32, position: Position, cells: Cells) -> Answer
+    requires { ⌜ (Sized (now table) n) × (local < 256) ⌝ }
+    ensures { λ r. ⌜ r ≡ answerFrom (now (table .entry)) cells (afterPosition n local (position .0)) ⌝ }
 {
-    if n <= group {
+    if n <= position.0 {
         return broken(cells);
     }
-    let got = read(
-        table,
-        HEADER_CELLS + GROUPS * n + GROUP_WORDS * group + 1,
-        cells,
-    );
-    let shape = got.word;
+    let at = Position(position.0 + local);
+    if n <= at.0 {
+        return broken(cells);
+    }
+    let got = read(table, HEADER_CELLS + ORDER * n + at.0, cells);
+    let class = Node(got.word);
     let more = got.cells;
-    shaped(table, n, d, depth, group, local, shape, more)
+    after_class(n, class, more)
+}
+
+// The group's parent p; `here` tells whether p has the depth asked.
+fn after_parent(table: &[u32], n: u32, d: u32, here: bool, p: Node, cells: Cells) -> Answer
+    requires { ⌜ (Sized (now table) n) × (Held 5 cells) ⌝ }
+    ensures { λ r. ⌜ ((depth : ℕ) → here ≡ eqb depth d → r ≡ answerFrom (now (table .entry)) cells (afterParent n d depth (p .0))) ⌝ }
+{
+    if n <= p.0 {
+        return broken(cells);
+    }
+    if here {
+        return Answer {
+            number: ACCEPTED,
+            word: p.0,
+            cells,
+        };
+    }
+    let got = read(table, HEADER_CELLS + n + p.0, cells);
+    let kind = got.word;
+    let more = got.cells;
+    after_parent_kind(table, n, d, kind, more)
+}
+
+// KIND of the group's parent, which is not micro: step 4 from there. Six cells were read.
+fn after_parent_kind(table: &[u32], n: u32, d: u32, kind: u32, cells: Cells) -> Answer
+    requires { ⌜ (Sized (now table) n) × (Held 6 cells) ⌝ }
+    ensures { λ r. ⌜ r ≡ answerFrom (now (table .entry)) cells (afterParentKind n d kind) ⌝ }
+{
+    if MICRO_MARK <= kind {
+        return broken(cells);
+    }
+    let a = from_jump(table, n, d, kind);
+    let more = a.cells;
+    Answer {
+        number: a.number,
+        word: a.word,
+        cells: with_four(cells, 6, more),
+    }
 }

@@ -5,12 +5,12 @@ ghost use mathlib.Core.Option.{some};
 ghost use Prim.Native.Nat.{_+_, _-_, _*_, _^_, _<_, _≤_};
 ghost use Rattle.base.specs.Limits.{Sized, jumpRoom};
 ghost use Rattle.answers.specs.Answers.{listed, answerFrom};
-ghost use Rattle.answers.specs.Steps.{exponent, ladder, landed, jumped, leaped, fromJump};
+ghost use Rattle.answers.specs.Steps.{exponent, afterLadpos, afterAncestor, readAncestor, afterJumpDepth, fromJump};
 use crate::power::exponent;
 use crate::power::power;
+use crate::reading::after_class;
 use crate::reading::broken;
 use crate::reading::read;
-use crate::reading::settled;
 use answers::Answer;
 use answers::Cells;
 use base::Node;
@@ -20,71 +20,6 @@ use base::limits::LADDERS;
 use base::limits::LADPOS;
 use base::limits::RECORD_WORDS;
 use base::limits::jump_room;
-
-// The last read: LADDERS at the index less the climbs still missing.
-fn ladder(table: &[u32], n: u32, missing: u32, index: u32, cells: Cells) -> Answer
-    requires { ⌜ Sized (now table) n ⌝ }
-    ensures { λ r. ⌜ r ≡ answerFrom (now (table .entry)) cells (ladder n missing index) ⌝ }
-{
-    if index < missing {
-        return broken(cells);
-    }
-    let at = index - missing;
-    if 2 * n <= at {
-        return broken(cells);
-    }
-    let got = read(table, HEADER_CELLS + LADDERS * n + at, cells);
-    let word = got.word;
-    let more = got.cells;
-    settled(n, word, more)
-}
-
-// LADPOS of w.
-fn landed(table: &[u32], n: u32, missing: u32, w: Node, cells: Cells) -> Answer
-    requires { ⌜ Sized (now table) n ⌝ }
-    ensures { λ r. ⌜ r ≡ answerFrom (now (table .entry)) cells (landed n missing (w .0)) ⌝ }
-{
-    if n <= w.0 {
-        return broken(cells);
-    }
-    let got = read(table, HEADER_CELLS + LADPOS * n + w.0, cells);
-    let index = got.word;
-    let more = got.cells;
-    ladder(table, n, missing, index, more)
-}
-
-// The ancestor for e, where the jump entry is x above the answer.
-fn jumped(table: &[u32], n: u32, jump: u32, x: u32, e: u32, cells: Cells) -> Answer
-    requires { ⌜ (Sized (now table) n) × (jump < jumpRoom n) × (e < 20) × (2 ^ e ≤ x) ⌝ }
-    ensures { λ r. ⌜ r ≡ answerFrom (now (table .entry)) cells (jumped n jump x e) ⌝ }
-{
-    let got = read(
-        table,
-        HEADER_CELLS + JUMPS * n + RECORD_WORDS * jump + 1 + e,
-        cells,
-    );
-    let w = Node(got.word);
-    let more = got.cells;
-    landed(table, n, x - power(e), w, more)
-}
-
-// The jump entry's depth.
-fn leaped(table: &[u32], n: u32, d: u32, jump: u32, depth: u32, cells: Cells) -> Answer
-    requires { ⌜ (Sized (now table) n) × (jump < jumpRoom n) ⌝ }
-    ensures { λ r. ⌜ r ≡ answerFrom (now (table .entry)) cells (leaped n d jump depth) ⌝ }
-{
-    if n <= depth {
-        return broken(cells);
-    }
-    if depth < d {
-        return broken(cells);
-    }
-    let x = depth - d;
-    if x == 0 {
-        return broken(cells);
-    }
-    jumped(table, n, jump, x, exponent(x), cells)
-}
 
 // Step 4 from a jump entry, with a list of its own, of four cells at most.
 pub(crate) fn from_jump(table: &[u32], n: u32, d: u32, jump: u32) -> Answer
@@ -98,5 +33,70 @@ pub(crate) fn from_jump(table: &[u32], n: u32, d: u32, jump: u32) -> Answer
     let got = read(table, HEADER_CELLS + JUMPS * n + RECORD_WORDS * jump, cells);
     let depth = got.word;
     let more = got.cells;
-    leaped(table, n, d, jump, depth, more)
+    after_jump_depth(table, n, d, jump, depth, more)
+}
+
+// The jump entry's depth.
+fn after_jump_depth(table: &[u32], n: u32, d: u32, jump: u32, depth: u32, cells: Cells) -> Answer
+    requires { ⌜ (Sized (now table) n) × (jump < jumpRoom n) ⌝ }
+    ensures { λ r. ⌜ r ≡ answerFrom (now (table .entry)) cells (afterJumpDepth n d jump depth) ⌝ }
+{
+    if n <= depth {
+        return broken(cells);
+    }
+    if depth < d {
+        return broken(cells);
+    }
+    let x = depth - d;
+    if x == 0 {
+        return broken(cells);
+    }
+    read_ancestor(table, n, jump, x, exponent(x), cells)
+}
+
+// The ancestor for e, where the jump entry is x above the answer.
+fn read_ancestor(table: &[u32], n: u32, jump: u32, x: u32, e: u32, cells: Cells) -> Answer
+    requires { ⌜ (Sized (now table) n) × (jump < jumpRoom n) × (e < 20) × (2 ^ e ≤ x) ⌝ }
+    ensures { λ r. ⌜ r ≡ answerFrom (now (table .entry)) cells (readAncestor n jump x e) ⌝ }
+{
+    let got = read(
+        table,
+        HEADER_CELLS + JUMPS * n + RECORD_WORDS * jump + 1 + e,
+        cells,
+    );
+    let w = Node(got.word);
+    let more = got.cells;
+    after_ancestor(table, n, x - power(e), w, more)
+}
+
+// LADPOS of w.
+fn after_ancestor(table: &[u32], n: u32, missing: u32, w: Node, cells: Cells) -> Answer
+    requires { ⌜ Sized (now table) n ⌝ }
+    ensures { λ r. ⌜ r ≡ answerFrom (now (table .entry)) cells (afterAncestor n missing (w .0)) ⌝ }
+{
+    if n <= w.0 {
+        return broken(cells);
+    }
+    let got = read(table, HEADER_CELLS + LADPOS * n + w.0, cells);
+    let index = got.word;
+    let more = got.cells;
+    after_ladpos(table, n, missing, index, more)
+}
+
+// The last read: LADDERS at the index less the climbs still missing.
+fn after_ladpos(table: &[u32], n: u32, missing: u32, index: u32, cells: Cells) -> Answer
+    requires { ⌜ Sized (now table) n ⌝ }
+    ensures { λ r. ⌜ r ≡ answerFrom (now (table .entry)) cells (afterLadpos n missing index) ⌝ }
+{
+    if index < missing {
+        return broken(cells);
+    }
+    let at = index - missing;
+    if 2 * n <= at {
+        return broken(cells);
+    }
+    let got = read(table, HEADER_CELLS + LADDERS * n + at, cells);
+    let class = Node(got.word);
+    let more = got.cells;
+    after_class(n, class, more)
 }

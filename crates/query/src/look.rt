@@ -5,7 +5,7 @@ ghost use Prim.Native.Nat.{_<_, _≤_};
 ghost use lib.ListN.{length};
 ghost use Rattle.base.specs.Limits.{Sized};
 ghost use Rattle.answers.specs.Answers.{listed, answerFrom, answerTo, answerWords};
-ghost use Rattle.answers.specs.Steps.{opened, entered, deep, wanted, descended, kinded};
+ghost use Rattle.answers.specs.Steps.{opened, fromEntry, afterDepth, wanted, ancestorAt, afterKind};
 ghost use Rattle.query.specs.Parts.{Held, countFrom, OpenedBy};
 use crate::group::from_group;
 use crate::joining::with_four;
@@ -27,23 +27,32 @@ use base::numbers::UNKNOWN;
 
 const HEADER: usize = HEADER_CELLS as usize;
 
+// As `look`, in words of the caller's. The questions of other languages and branch ask here alone, so that the compiler sets the steps in place once and
+// writes each word where it is wanted.
+pub fn look_words(table: &[u32], climbs: bool, v: Node, x: u32, words: &mut [u32; 18])
+    ensures { λ _. ⌜ now (words .exit) ≡ answerWords (answerTo (now (table .entry)) (opened (length (now (table .entry))) (fromEntry climbs (v .0) x))) ⌝ }
+{
+    let answer = look(table, climbs, v, x);
+    *words = answer.words();
+}
+
+// The level lookup of v at depth x, or x climbs up from v.
+pub(crate) fn look(table: &[u32], climbs: bool, v: Node, x: u32) -> Answer
+    ensures { λ r. ⌜ r ≡ answerFrom (now (table .entry)) (listed []) (opened (length (now (table .entry))) (fromEntry climbs (v .0) x)) ⌝ }
+{
+    let open = opened(table);
+    let n = open.n;
+    let cells = open.cells;
+    if n == 0 {
+        return broken(cells);
+    }
+    from_entry(table, n, climbs, v, x, cells)
+}
+
 // What step 1 finds: the number of entries, 0 where the table is broken.
 pub struct Count {
     pub n: u32,
     pub cells: Cells,
-}
-
-// The number of entries that a cell 0 stands for, 0 where the table is broken.
-fn counted(words: usize, n: u32) -> u32
-    ensures { λ r. ⌜ r ≡ countFrom words n ⌝ }
-{
-    if MOST_ENTRIES < n {
-        return 0;
-    }
-    if words < table_words(n) {
-        return 0;
-    }
-    n
 }
 
 pub(crate) fn opened(table: &[u32]) -> Count
@@ -59,10 +68,92 @@ pub(crate) fn opened(table: &[u32]) -> Count
     Count { n, cells: more }
 }
 
+// The number of entries that a cell 0 stands for, 0 where the table is broken.
+fn counted(words: usize, n: u32) -> u32
+    ensures { λ r. ⌜ r ≡ countFrom words n ⌝ }
+{
+    if MOST_ENTRIES < n {
+        return 0;
+    }
+    if words < table_words(n) {
+        return 0;
+    }
+    n
+}
+
+// Step 2: v.
+fn from_entry(table: &[u32], n: u32, climbs: bool, v: Node, x: u32, cells: Cells) -> Answer
+    requires { ⌜ (Sized (now table) n) × (Held 1 cells) ⌝ }
+    ensures { λ r. ⌜ r ≡ answerFrom (now (table .entry)) cells (fromEntry climbs (v .0) x n) ⌝ }
+{
+    if n <= v.0 {
+        return Answer {
+            number: UNKNOWN,
+            word: v.0,
+            cells,
+        };
+    }
+    let got = read(table, HEADER_CELLS + v.0, cells);
+    let depth = got.word;
+    let more = got.cells;
+    after_depth(table, n, climbs, v, x, depth, more)
+}
+
+// Step 2: the depth of v.
+fn after_depth(
+    table: &[u32],
+    n: u32,
+    climbs: bool,
+    v: Node,
+    x: u32,
+    depth: u32,
+    cells: Cells,
+) -> Answer
+    requires { ⌜ (Sized (now table) n) × (v .0 < n) × (Held 2 cells) ⌝ }
+    ensures { λ r. ⌜ r ≡ answerFrom (now (table .entry)) cells (afterDepth n climbs (v .0) x depth) ⌝ }
+{
+    if n <= depth {
+        return broken(cells);
+    }
+    if depth < x {
+        return Answer {
+            number: TOO_DEEP,
+            word: v.0,
+            cells,
+        };
+    }
+    ancestor_at(table, n, v, wanted(climbs, x, depth), depth, cells)
+}
+
+// The depth wanted, where x is a depth or counts climbs.
+fn wanted(climbs: bool, x: u32, depth: u32) -> u32
+    requires { ⌜ x ≤ depth ⌝ }
+    ensures { λ r. ⌜ (r ≡ wanted climbs x depth) × (r ≤ depth) ⌝ }
+{
+    if climbs { depth - x } else { x }
+}
+
+fn ancestor_at(table: &[u32], n: u32, v: Node, d: u32, depth: u32, cells: Cells) -> Answer
+    requires { ⌜ (Sized (now table) n) × (v .0 < n) × (d ≤ depth) × (Held 2 cells) ⌝ }
+    ensures { λ r. ⌜ r ≡ answerFrom (now (table .entry)) cells (ancestorAt n (v .0) d depth) ⌝ }
+{
+    if depth == d {
+        return Answer {
+            number: ACCEPTED,
+            word: v.0,
+            cells,
+        };
+    }
+    let got = read(table, HEADER_CELLS + n + v.0, cells);
+    let kind = got.word;
+    let more = got.cells;
+    after_kind(table, n, d, depth, kind, more)
+}
+
 // By KIND: a group, or straight to step 4. Three cells were read.
-fn kinded(table: &[u32], n: u32, d: u32, depth: u32, kind: u32, cells: Cells) -> Answer
+fn after_kind(table: &[u32], n: u32, d: u32, depth: u32, kind: u32, cells: Cells) -> Answer
     requires { ⌜ (Sized (now table) n) × (d < depth) × (Held 3 cells) ⌝ }
-    ensures { λ r. ⌜ r ≡ answerFrom (now (table .entry)) cells (kinded n d depth kind) ⌝ }
+    ensures { λ r. ⌜ r ≡ answerFrom (now (table .entry)) cells (afterKind n d depth kind) ⌝ }
 {
     if MICRO_MARK <= kind {
         let x = kind - MICRO_MARK;
@@ -75,87 +166,4 @@ fn kinded(table: &[u32], n: u32, d: u32, depth: u32, kind: u32, cells: Cells) ->
         word: a.word,
         cells: with_four(cells, 3, more),
     }
-}
-
-fn descended(table: &[u32], n: u32, v: Node, d: u32, depth: u32, cells: Cells) -> Answer
-    requires { ⌜ (Sized (now table) n) × (v .0 < n) × (d ≤ depth) × (Held 2 cells) ⌝ }
-    ensures { λ r. ⌜ r ≡ answerFrom (now (table .entry)) cells (descended n (v .0) d depth) ⌝ }
-{
-    if depth == d {
-        return Answer {
-            number: ACCEPTED,
-            word: v.0,
-            cells,
-        };
-    }
-    let got = read(table, HEADER_CELLS + n + v.0, cells);
-    let kind = got.word;
-    let more = got.cells;
-    kinded(table, n, d, depth, kind, more)
-}
-
-// The depth wanted, where x is a depth or counts climbs.
-fn wanted(climbs: bool, x: u32, depth: u32) -> u32
-    requires { ⌜ x ≤ depth ⌝ }
-    ensures { λ r. ⌜ (r ≡ wanted climbs x depth) × (r ≤ depth) ⌝ }
-{
-    if climbs { depth - x } else { x }
-}
-
-// Step 2: the depth of v.
-fn deep(table: &[u32], n: u32, climbs: bool, v: Node, x: u32, depth: u32, cells: Cells) -> Answer
-    requires { ⌜ (Sized (now table) n) × (v .0 < n) × (Held 2 cells) ⌝ }
-    ensures { λ r. ⌜ r ≡ answerFrom (now (table .entry)) cells (deep n climbs (v .0) x depth) ⌝ }
-{
-    if n <= depth {
-        return broken(cells);
-    }
-    if depth < x {
-        return Answer {
-            number: TOO_DEEP,
-            word: v.0,
-            cells,
-        };
-    }
-    descended(table, n, v, wanted(climbs, x, depth), depth, cells)
-}
-
-// Step 2: v.
-fn entered(table: &[u32], n: u32, climbs: bool, v: Node, x: u32, cells: Cells) -> Answer
-    requires { ⌜ (Sized (now table) n) × (Held 1 cells) ⌝ }
-    ensures { λ r. ⌜ r ≡ answerFrom (now (table .entry)) cells (entered climbs (v .0) x n) ⌝ }
-{
-    if n <= v.0 {
-        return Answer {
-            number: UNKNOWN,
-            word: v.0,
-            cells,
-        };
-    }
-    let got = read(table, HEADER_CELLS + v.0, cells);
-    let depth = got.word;
-    let more = got.cells;
-    deep(table, n, climbs, v, x, depth, more)
-}
-
-// The level lookup of v at depth x, or x climbs up from v.
-pub(crate) fn look(table: &[u32], climbs: bool, v: Node, x: u32) -> Answer
-    ensures { λ r. ⌜ r ≡ answerFrom (now (table .entry)) (listed []) (opened (length (now (table .entry))) (entered climbs (v .0) x)) ⌝ }
-{
-    let open = opened(table);
-    let n = open.n;
-    let cells = open.cells;
-    if n == 0 {
-        return broken(cells);
-    }
-    entered(table, n, climbs, v, x, cells)
-}
-
-// As `look`, in words of the caller's. The questions of other languages and branch ask here alone, so that the compiler sets the steps in place once and
-// writes each word where it is wanted.
-pub fn look_words(table: &[u32], climbs: bool, v: Node, x: u32, words: &mut [u32; 18])
-    ensures { λ _. ⌜ now (words .exit) ≡ answerWords (answerTo (now (table .entry)) (opened (length (now (table .entry))) (entered climbs (v .0) x))) ⌝ }
-{
-    let answer = look(table, climbs, v, x);
-    *words = answer.words();
 }

@@ -6,10 +6,11 @@ ghost use lib.ListN.{length};
 ghost use Rattle.base.specs.Numbers.{broken};
 ghost use Rattle.answers.specs.Reading.{done};
 ghost use Rattle.answers.specs.Answers.{answerFrom};
-ghost use Rattle.answers.specs.Steps.{answer};
+ghost use Rattle.answers.specs.Steps.{afterClass};
 ghost use Rattle.query.specs.Parts.{gotAt};
 use answers::Answer;
 use answers::Cells;
+use base::Node;
 use base::numbers::ACCEPTED;
 use base::numbers::BROKEN;
 
@@ -41,15 +42,15 @@ pub(crate) fn broken(cells: Cells) -> Answer
 }
 
 // A word that is to be the answer is an entry.
-pub(crate) fn settled(n: u32, word: u32, cells: Cells) -> Answer
-    ensures { λ r. ⌜ ((t : List ℕ) → r ≡ answerFrom t cells (answer n word)) ⌝ }
+pub(crate) fn after_class(n: u32, w: Node, cells: Cells) -> Answer
+    ensures { λ r. ⌜ ((t : List ℕ) → r ≡ answerFrom t cells (afterClass n (w .0))) ⌝ }
 {
-    if n <= word {
+    if n <= w.0 {
         return broken(cells);
     }
     Answer {
         number: ACCEPTED,
-        word,
+        word: w.0,
         cells,
     }
 }

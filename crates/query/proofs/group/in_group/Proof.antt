@@ -32,7 +32,7 @@ in-group-spec =
     let p = start .pre .0 in
     let past = past-depth (start .args .shape) (start .args .local) _ (p .row-is) (p .local-in) _ _ (branch .before .reached .ensures) (branch .if1 .taken) in
     let here = parent-depth (start .args .shape) (start .args .local) _ (p .row-is) (p .local-in) (start .args .depth) (start .args .d) _ (p .deeper) past (c .before .before .before .reached2 .ensures) in
-    search (steps, c .left-group .ensures (start .args .depth - localDepth groupLimit (start .args .shape) (start .args .local) - 1) here))
+    search (steps, c .after-parent .ensures (start .args .depth - localDepth groupLimit (start .args .shape) (start .args .local) - 1) here))
     (λ c. search needs)
     (λ c. search needs)
     (λ c. search needs)

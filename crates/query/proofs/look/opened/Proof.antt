@@ -7,7 +7,7 @@ use lib.Dec.{lit<}
 use lib.ListN.{length}
 use Rattle.base.specs.Limits.{entriesOf}
 use Rattle.answers.specs.Answers.{listed, answerFrom}
-use Rattle.answers.specs.Steps.{counted, opened}
+use Rattle.answers.specs.Steps.{afterCount, opened}
 use Rattle.query.specs.Parts.{countFrom, openFrom}
 use Rattle.query.proofs.Opening.{count-room, count-goes}
 use Rattle.query.proofs.Walking.{steps, got-held}
@@ -33,7 +33,7 @@ opened-spec =
       room = rw n (count-room t (got .word));
       one = λ h. got-held got _ _ _ 0 (c .before .before .before .read .ensures) (record { list = []; long = refl; is = new }) (lit< tt);
       goes = λ next.
-          let rest : openFrom t (record { n = c .before .counted .result; cells = got .cells }) next ≡ answerFrom t (got .cells) (counted (length t) (got .word) next) =
+          let rest : openFrom t (record { n = c .before .counted .result; cells = got .cells }) next ≡ answerFrom t (got .cells) (afterCount (length t) (got .word) next) =
           rw n (count-goes t (got .cells) (got .word) next) in
           rw (← new) (search steps);
     }))

@@ -1,16 +1,16 @@
--- `jump::leaped` meets its contract. Assumes nothing.
+-- `jump::after_jump_depth` meets its contract. Assumes nothing.
 use native.Mathlib.Omega.{arith}
 use borrow.Author.Needs.{needs}
 use lib.Dec.{lit≤}
-use Rattle.answers.specs.Steps.{leaped}
+use Rattle.answers.specs.Steps.{afterJumpDepth}
 use Rattle.answers.proofs.Exponent.{exponent-low, exponent-zero}
 use Rattle.query.proofs.Walking.{steps}
-use Rattle.query.proofs.jump.leaped.Statement.{statement}
-use Rattle.query.proofs.jump.leaped.Tie as tie
+use Rattle.query.proofs.jump.after_jump_depth.Statement.{statement}
+use Rattle.query.proofs.jump.after_jump_depth.Tie as tie
 
-pub leaped-spec : {M : Type 1} → statement M
-unfolding leaped
-leaped-spec =
+pub after-jump-depth-spec : {M : Type 1} → statement M
+unfolding afterJumpDepth
+after-jump-depth-spec =
     tie.close
     (tie.spec
     (λ c κs. search needs)

@@ -1,14 +1,14 @@
--- `look::descended` meets its contract. Assumes nothing.
+-- `look::ancestor_at` meets its contract. Assumes nothing.
 use lib.Dec.{lit<}
 use borrow.Author.Needs.{needs}
-use Rattle.answers.specs.Steps.{descended}
+use Rattle.answers.specs.Steps.{ancestorAt}
 use Rattle.query.proofs.Walking.{steps, got-held}
-use Rattle.query.proofs.look.descended.Statement.{statement}
-use Rattle.query.proofs.look.descended.Tie as tie
+use Rattle.query.proofs.look.ancestor_at.Statement.{statement}
+use Rattle.query.proofs.look.ancestor_at.Tie as tie
 
-pub descended-spec : {M : Type 1} → statement M
-unfolding descended
-descended-spec =
+pub ancestor-at-spec : {M : Type 1} → statement M
+unfolding ancestorAt
+ancestor-at-spec =
     tie.close
     (tie.spec
     (λ c. search steps)

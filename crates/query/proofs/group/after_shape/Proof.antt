@@ -1,18 +1,18 @@
--- `group::shaped` meets its contract. Assumes nothing.
+-- `group::after_shape` meets its contract. Assumes nothing.
 use mathlib.Core.Logic.{inl}
 use native.Mathlib.Omega.{arith}
 use borrow.Author.Needs.{needs}
 use Rattle.base.specs.Limits.{groupLimit}
 use Rattle.shapes.proofs.Heights.{reached-past}
-use Rattle.answers.specs.Steps.{shaped}
+use Rattle.answers.specs.Steps.{afterShape}
 use Rattle.query.proofs.Rows.{outside, inside, there}
 use Rattle.query.proofs.Walking.{steps}
-use Rattle.query.proofs.group.shaped.Statement.{statement}
-use Rattle.query.proofs.group.shaped.Tie as tie
+use Rattle.query.proofs.group.after_shape.Statement.{statement}
+use Rattle.query.proofs.group.after_shape.Tie as tie
 
-pub shaped-spec : {M : Type 1} → statement M
-unfolding shaped
-shaped-spec =
+pub after-shape-spec : {M : Type 1} → statement M
+unfolding afterShape
+after-shape-spec =
     tie.close
     (tie.spec
     (λ c κs. search needs)

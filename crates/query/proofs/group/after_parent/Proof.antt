@@ -1,16 +1,16 @@
--- `group::left_group` meets its contract. Assumes nothing.
+-- `group::after_parent` meets its contract. Assumes nothing.
 use mathlib.Core.Path.{sym, _∙_}
 use lib.Dec.{lit<}
 use borrow.Author.Needs.{needs}
 use borrow.Author.Tests.{eqb-true, eqb-false}
-use Rattle.answers.specs.Steps.{leftGroup}
+use Rattle.answers.specs.Steps.{afterParent}
 use Rattle.query.proofs.Walking.{steps, got-held}
-use Rattle.query.proofs.group.left_group.Statement.{statement}
-use Rattle.query.proofs.group.left_group.Tie as tie
+use Rattle.query.proofs.group.after_parent.Statement.{statement}
+use Rattle.query.proofs.group.after_parent.Tie as tie
 
-pub left-group-spec : {M : Type 1} → statement M
-unfolding leftGroup
-left-group-spec =
+pub after-parent-spec : {M : Type 1} → statement M
+unfolding afterParent
+after-parent-spec =
     tie.close
     (tie.spec
     (λ c κs. search needs)

@@ -1,14 +1,14 @@
--- `group::in_order` meets its contract. Assumes nothing.
+-- `group::after_position` meets its contract. Assumes nothing.
 use native.Mathlib.Omega.{arith}
 use borrow.Author.Needs.{needs}
-use Rattle.answers.specs.Steps.{inOrder}
+use Rattle.answers.specs.Steps.{afterPosition}
 use Rattle.query.proofs.Walking.{steps, le-yes}
-use Rattle.query.proofs.group.in_order.Statement.{statement}
-use Rattle.query.proofs.group.in_order.Tie as tie
+use Rattle.query.proofs.group.after_position.Statement.{statement}
+use Rattle.query.proofs.group.after_position.Tie as tie
 
-pub in-order-spec : {M : Type 1} → statement M
-unfolding inOrder
-in-order-spec =
+pub after-position-spec : {M : Type 1} → statement M
+unfolding afterPosition
+after-position-spec =
     tie.close
     (tie.spec
     (λ c κs. search needs)
@@ -21,4 +21,4 @@ in-order-spec =
     (λ c. search needs)
     (λ c κs. search needs)
     (λ c κs. search needs)
-    (λ c. search (steps, c .settled .ensures)))
+    (λ c. search (steps, c .after-class .ensures)))

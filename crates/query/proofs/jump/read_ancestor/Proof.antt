@@ -1,13 +1,13 @@
--- `jump::jumped` meets its contract. Assumes nothing.
+-- `jump::read_ancestor` meets its contract. Assumes nothing.
 use borrow.Author.Needs.{needs}
-use Rattle.answers.specs.Steps.{jumped}
+use Rattle.answers.specs.Steps.{readAncestor}
 use Rattle.query.proofs.Walking.{steps}
-use Rattle.query.proofs.jump.jumped.Statement.{statement}
-use Rattle.query.proofs.jump.jumped.Tie as tie
+use Rattle.query.proofs.jump.read_ancestor.Statement.{statement}
+use Rattle.query.proofs.jump.read_ancestor.Tie as tie
 
-pub jumped-spec : {M : Type 1} → statement M
-unfolding jumped
-jumped-spec =
+pub read-ancestor-spec : {M : Type 1} → statement M
+unfolding readAncestor
+read-ancestor-spec =
     tie.close
     (tie.spec
     (λ c. search needs)

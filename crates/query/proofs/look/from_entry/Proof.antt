@@ -1,14 +1,14 @@
--- `look::entered` meets its contract. Assumes nothing.
+-- `look::from_entry` meets its contract. Assumes nothing.
 use lib.Dec.{lit<}
 use borrow.Author.Needs.{needs}
-use Rattle.answers.specs.Steps.{entered}
+use Rattle.answers.specs.Steps.{fromEntry}
 use Rattle.query.proofs.Walking.{steps, got-held}
-use Rattle.query.proofs.look.entered.Statement.{statement}
-use Rattle.query.proofs.look.entered.Tie as tie
+use Rattle.query.proofs.look.from_entry.Statement.{statement}
+use Rattle.query.proofs.look.from_entry.Tie as tie
 
-pub entered-spec : {M : Type 1} → statement M
-unfolding entered
-entered-spec =
+pub from-entry-spec : {M : Type 1} → statement M
+unfolding fromEntry
+from-entry-spec =
     tie.close
     (tie.spec
     (λ c. search steps)

@@ -1,15 +1,15 @@
--- `group::over_group` meets its contract. Assumes nothing.
+-- `group::after_parent_kind` meets its contract. Assumes nothing.
 use lib.Dec.{lit≤}
 use borrow.Author.Needs.{needs}
-use Rattle.answers.specs.Steps.{overGroup}
+use Rattle.answers.specs.Steps.{afterParentKind}
 use Rattle.query.proofs.Behind.{jump-held, jump-four, jump-goes}
 use Rattle.query.proofs.Walking.{steps, le-no}
-use Rattle.query.proofs.group.over_group.Statement.{statement}
-use Rattle.query.proofs.group.over_group.Tie as tie
+use Rattle.query.proofs.group.after_parent_kind.Statement.{statement}
+use Rattle.query.proofs.group.after_parent_kind.Tie as tie
 
-pub over-group-spec : {M : Type 1} → statement M
-unfolding overGroup
-over-group-spec =
+pub after-parent-kind-spec : {M : Type 1} → statement M
+unfolding afterParentKind
+after-parent-kind-spec =
     tie.close
     (tie.spec
     (λ c κs. search needs)

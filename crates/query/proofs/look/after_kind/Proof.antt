@@ -1,15 +1,15 @@
--- `look::kinded` meets its contract. Assumes nothing.
+-- `look::after_kind` meets its contract. Assumes nothing.
 use lib.Dec.{lit≤}
 use borrow.Author.Needs.{needs}
-use Rattle.answers.specs.Steps.{kinded}
+use Rattle.answers.specs.Steps.{afterKind}
 use Rattle.query.proofs.Behind.{jump-held, jump-four, jump-goes}
 use Rattle.query.proofs.Walking.{steps, le-no}
-use Rattle.query.proofs.look.kinded.Statement.{statement}
-use Rattle.query.proofs.look.kinded.Tie as tie
+use Rattle.query.proofs.look.after_kind.Statement.{statement}
+use Rattle.query.proofs.look.after_kind.Tie as tie
 
-pub kinded-spec : {M : Type 1} → statement M
-unfolding kinded
-kinded-spec =
+pub after-kind-spec : {M : Type 1} → statement M
+unfolding afterKind
+after-kind-spec =
     tie.close
     (tie.spec
     (λ c κs. search needs)
