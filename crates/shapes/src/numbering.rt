@@ -1,14 +1,11 @@
 // The number of a group's shape, from the depths of its entries.
 ghost use mathlib.Core.Path.{_≡_};
-ghost use mathlib.Core.List.{List, _∷_, _++_};
-ghost use Prim.Native.Nat.{ℕ, suc, _≤_, _<_};
-ghost use lib.ListN.{length, drop};
+ghost use Prim.Native.Nat.{_≤_, _<_};
+ghost use lib.ListN.{length};
 ghost use Rattle.base.specs.Limits.{groupLimit, shapeCount};
 ghost use Rattle.base.specs.Lists.{below};
-ghost use Rattle.tree.specs.Forest.{Forest, forestSize};
 ghost use Rattle.shapes.specs.Walks.{walkRound, walks, shapes, shapeNumber};
-ghost use Rattle.tree.specs.Forest.{levels};
-ghost use Rattle.shapes.specs.Numbered.{Numbered};
+ghost use Rattle.shapes.specs.Numbered.{Numbered, OfGroup};
 use base::Position;
 
 // How many walks go on from each depth, 0 to 4, with so many downs to come.
@@ -69,8 +66,9 @@ fn ranked(group: &[u32]) -> u32
 // The number of the shape of the group whose root stands at position `from` of a list of depths in preorder and that has so many entries; 23 where
 // the depths there are not those of a group of 1 to 5 entries.
 pub fn number(depths: &[u32], from: Position, entries: usize) -> u32
-    ensures is { λ r. ⌜ ((f : Forest) (d : ℕ) (rest : List ℕ) → drop (from .0) (now (depths .entry)) ≡ d ∷ (levels (suc d) f ++ rest) → entries ≡ suc (forestSize f) → entries ≤ groupLimit → r ≡ shapeNumber groupLimit (walkRound f)) ⌝ }
+    ensures is { λ r. ⌜ OfGroup (now (depths .entry)) (from .0) entries (λ f. r ≡ shapeNumber groupLimit (walkRound f)) ⌝ }
     ensures small { λ r. ⌜ r ≤ shapeCount ⌝ }
+    ensures none { λ r. ⌜ (OfGroup (now (depths .entry)) (from .0) entries (λ f. ⊥) → r ≡ shapeCount) ⌝ }
 {
     if entries == 0
         || 5 < entries
