@@ -1,4 +1,5 @@
 -- The definitions that the contracts of `samples` cite.
 pub mod Climbing
-pub mod Part
+pub mod Counts
+pub mod Fields
 pub mod Words

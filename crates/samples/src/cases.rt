@@ -1,5 +1,7 @@
 // The lists, line by line of what `trials` prints: each with its length, and with the words of the table and of the space to try it with.
+ghost use mathlib.Core.Path.{_≡_};
 ghost use Prim.Native.Nat.{_≤_};
+ghost use Rattle.samples.specs.Counts.{countOf};
 use crate::codings::any_coded;
 use crate::codings::any_list;
 use crate::codings::grown_coded;
@@ -62,7 +64,7 @@ fn size_at(k: usize) -> usize
 
 // How many lists a line has. There are 53 sizes, each with two numberings.
 pub fn count_at(line: usize) -> usize
-    ensures { λ r. ⌜ (1 ≤ r) × (r ≤ 1748) ⌝ }
+    ensures { λ r. ⌜ r ≡ countOf line ⌝ }
 {
     if line < KINDS {
         return 212;
