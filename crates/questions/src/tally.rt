@@ -1,9 +1,9 @@
 // How many questions were asked, and how many answers differ.
 use samples::words::add;
 
-pub struct Tally {
-    pub asked: usize,
-    pub differences: usize,
+pub(crate) struct Tally {
+    pub(crate) asked: usize,
+    pub(crate) differences: usize,
 }
 
 impl Tally {

@@ -83,7 +83,7 @@ fn fewer(size: usize) -> usize {
     count
 }
 
-pub fn shape(book: &[u32], root: usize) -> usize {
+pub(crate) fn shape(book: &[u32], root: usize) -> usize {
     let size = read(book, SIZE, root);
     let steps = less(add(size, size), 2);
     add(fewer(size), before(walk(book, root), steps))

@@ -99,7 +99,7 @@ fn space_differences(n: usize, words: usize, number: usize, space: &[u32]) -> us
 }
 
 // How much differs after a call with so many words of the table and of the space. Both are compared for 16 words beyond.
-pub fn trial(
+pub(crate) fn trial(
     parents: &[u32],
     n: usize,
     t: usize,

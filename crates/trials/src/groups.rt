@@ -63,7 +63,7 @@ fn note_root(parents: &[u32], book: &mut [u32], v: usize, count: usize) -> usize
 }
 
 // The roots of the groups, in preorder. Answers how many.
-pub fn list_roots(parents: &[u32], n: usize, book: &mut [u32]) -> usize {
+pub(crate) fn list_roots(parents: &[u32], n: usize, book: &mut [u32]) -> usize {
     let mut count = 0;
     let mut i = 0;
     while i < n {
@@ -84,7 +84,7 @@ fn note_jump(parents: &[u32], book: &mut [u32], n: usize, v: usize, count: usize
 }
 
 // The jump entries, in preorder. Answers how many.
-pub fn list_jumps(parents: &[u32], n: usize, book: &mut [u32]) -> usize {
+pub(crate) fn list_jumps(parents: &[u32], n: usize, book: &mut [u32]) -> usize {
     let mut count = 0;
     let mut i = 0;
     while i < n {
@@ -138,7 +138,7 @@ fn kind(book: &[u32], groups: usize, jumps: usize, v: usize) -> usize {
     jump_of(book, jumps, v)
 }
 
-pub fn kinds(book: &[u32], n: usize, groups: usize, jumps: usize, want: &mut [u32]) {
+pub(crate) fn kinds(book: &[u32], n: usize, groups: usize, jumps: usize, want: &mut [u32]) {
     let cells = start(1, n);
     let mut v = 0;
     while v < n {
@@ -148,7 +148,7 @@ pub fn kinds(book: &[u32], n: usize, groups: usize, jumps: usize, want: &mut [u3
 }
 
 // GROUPS, zeros behind left as they are.
-pub fn lay_groups(parents: &[u32], book: &[u32], n: usize, groups: usize, want: &mut [u32]) {
+pub(crate) fn lay_groups(parents: &[u32], book: &[u32], n: usize, groups: usize, want: &mut [u32]) {
     let mut at = start(8, n);
     let mut g = 0;
     while g < groups {
@@ -183,7 +183,7 @@ fn record(parents: &[u32], book: &[u32], v: usize, at: usize, want: &mut [u32]) 
 }
 
 // JUMPS, zeros behind left as they are.
-pub fn lay_jumps(parents: &[u32], book: &[u32], n: usize, jumps: usize, want: &mut [u32]) {
+pub(crate) fn lay_jumps(parents: &[u32], book: &[u32], n: usize, jumps: usize, want: &mut [u32]) {
     let mut at = start(11, n);
     let mut j = 0;
     while j < jumps {

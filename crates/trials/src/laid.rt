@@ -65,7 +65,7 @@ fn lay_from(
     header(n, jumps, groups, count_paths(parents, book, n), want);
 }
 
-pub fn lay(parents: &[u32], n: usize, want: &mut [u32]) {
+pub(crate) fn lay(parents: &[u32], n: usize, want: &mut [u32]) {
     let mut book = [0u32; 4608];
     keep(parents, n, &mut book);
     let groups = list_roots(parents, n, &mut book);

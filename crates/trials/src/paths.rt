@@ -71,7 +71,7 @@ fn ladder(
 }
 
 // Every ladder, in preorder of the paths' tops.
-pub fn ladders(parents: &[u32], book: &[u32], n: usize, want: &mut [u32]) {
+pub(crate) fn ladders(parents: &[u32], book: &[u32], n: usize, want: &mut [u32]) {
     let mut index = 0;
     let mut i = 0;
     while i < n {
@@ -80,7 +80,7 @@ pub fn ladders(parents: &[u32], book: &[u32], n: usize, want: &mut [u32]) {
     }
 }
 
-pub fn count_paths(parents: &[u32], book: &[u32], n: usize) -> usize {
+pub(crate) fn count_paths(parents: &[u32], book: &[u32], n: usize) -> usize {
     let mut count = 0;
     let mut v = 0;
     while v < n {

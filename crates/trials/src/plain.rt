@@ -125,7 +125,7 @@ fn long_children(parents: &[u32], n: usize, book: &mut [u32]) {
 }
 
 // Fills the book of a list that forms one tree, from zeros.
-pub fn keep(parents: &[u32], n: usize, book: &mut [u32]) {
+pub(crate) fn keep(parents: &[u32], n: usize, book: &mut [u32]) {
     measure(parents, n, book);
     offsets(parents, n, book);
     places(parents, n, book);

@@ -12,7 +12,7 @@ fn name(line: usize) {
     }
 }
 
-pub fn say(line: usize, count: usize, differences: usize) {
+pub(crate) fn say(line: usize, count: usize, differences: usize) {
     name(line);
     io::print_decimal(1, count as u64);
     io::write_all(1, b",");

@@ -6,9 +6,9 @@ use samples::words::add;
 use samples::words::get;
 use samples::words::times;
 
-pub struct Verdict {
-    pub number: usize,
-    pub name: usize,
+pub(crate) struct Verdict {
+    pub(crate) number: usize,
+    pub(crate) name: usize,
 }
 
 // The lowest entry whose word is neither an entry nor the top mark, or n.
@@ -78,7 +78,7 @@ fn list_verdict(parents: &[u32], n: usize) -> Verdict {
 }
 
 // The answer to a list of n words with a table and a space of so many words.
-pub fn judge(parents: &[u32], n: usize, table: usize, space: usize) -> Verdict {
+pub(crate) fn judge(parents: &[u32], n: usize, table: usize, space: usize) -> Verdict {
     if n == 0 {
         return Verdict { number: 1, name: 0 };
     }

@@ -4,17 +4,17 @@ use samples::words::put;
 use samples::words::times;
 
 // W: the words of a table for n entries.
-pub fn table_words(n: usize) -> usize {
+pub(crate) fn table_words(n: usize) -> usize {
     add(add(4, times(n, 11)), times(21, n / 6))
 }
 
 // Where a section of the table starts: after the header and so many times n cells.
-pub fn start(section: usize, n: usize) -> usize {
+pub(crate) fn start(section: usize, n: usize) -> usize {
     add(4, times(n, section))
 }
 
 // Zeros in the first n words.
-pub fn clear(a: &mut [u32], n: usize) {
+pub(crate) fn clear(a: &mut [u32], n: usize) {
     let mut i = 0;
     while i < n {
         put(a, i, 0);
@@ -23,7 +23,7 @@ pub fn clear(a: &mut [u32], n: usize) {
 }
 
 // What the first n words hold before a trial: no two alike, and none a likely answer.
-pub fn fill(a: &mut [u32], n: usize) {
+pub(crate) fn fill(a: &mut [u32], n: usize) {
     let mut i = 0;
     while i < n {
         put(a, i, add(3000000000, i));
