@@ -1,4 +1,4 @@
-// The lists, line by line of what `trials` prints: each with its length, and with the words of the table and of the space to try it with.
+// The lists, line by line of what `preparing_trials` prints: each with its length, and with the words of the table and of the space to try it with.
 ghost use mathlib.Core.Path.{_≡_};
 ghost use Prim.Native.Nat.{_≤_};
 ghost use Rattle.samples.specs.Counts.{countOf};
