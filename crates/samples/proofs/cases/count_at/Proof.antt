@@ -1,6 +1,6 @@
 -- `cases::count_at` meets its contract. Assumes nothing.
 use borrow.Author.Tests.{lt-ltb, le-ltb, eq-eqb, ne-eqb}
-use Rattle.samples.specs.Counts.{countOf}
+use Rattle.samples.specs.Cases.{countOf}
 use Rattle.samples.proofs.cases.count_at.Statement.{statement}
 use Rattle.samples.proofs.cases.count_at.Tie as tie
 
