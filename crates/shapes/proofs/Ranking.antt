@@ -64,11 +64,13 @@ lowered-at group i = ap (getD (lowered group) i) (sym (zero-sub (getD group 0 0)
 lowered-levels : (group : List ℕ) (f : Forest) (d : ℕ) → group ≡ d ∷ levels (suc d) f → lowered group ≡ 0 ∷ levels 1 f
 lowered-levels group f d e = rw (e, sub-self, ← add-one d, levels-lower d 1 f)
 
+-- depths that go as a group's do are a group's
 depths-forest : (group : List ℕ) → 0 < length group → Goes 0 (drop 1 (lowered group)) → (f : Forest) × (group ≡ getD group 0 0 ∷ levels (suc (getD group 0 0)) f)
 depths-forest [] h g = absurd (not-suc-le-zero h)
 depths-forest (d ∷ ds) h g = let t = goes-forest d ds g in (t .0, ap (_∷_ d) (t .1))
 
--- of a group with these depths `sum` has been counted: the entries before place i are passed, the last of them `at` levels below the root
+-- of a group with these depths `sum` has been counted: the entries before place i are passed, the last of them `at` levels below the root;
+-- those to come go as a group's do just where all of them do
 pub record Ranked (L : ℕ) (group : List ℕ) (sum at i : ℕ) : Type 0 where
   pub few : length group ≤ L
   pub upto : i ≤ length group
