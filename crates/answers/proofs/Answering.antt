@@ -10,7 +10,6 @@ use lib.Seq.{set-append-seam, take-at}
 use borrow.Author.Tests.{lt-ltb}
 use Rattle.base.specs.Lists.{padded}
 use Rattle.base.specs.Numbers.{Outcome}
-use Rattle.base.proofs.Joined.{padded-length}
 use Rattle.answers.specs.Reading.{Reading, done, read, andThen, wordAt, run, trace, Within, Agree}
 use Rattle.answers.specs.Answers.{pushed, pushedAll, listed, answerTo, answerFrom, SameAt}
 use Rattle.answers.specs.declared.Cells.{Cells}
@@ -59,10 +58,6 @@ module _ (t : List ℕ) (b : ℕ) (p : Reading) (i : Within b p) where
   pub few : answerTo t p .cells .count ≤ b
   unfolding answerTo listed
   few = within-trace t b p i
-
-  pub fifteen-places : b ≤ 15 → length (answerTo t p .cells .at) ≡ 15
-  unfolding answerTo listed
-  fifteen-places h = padded-length 15 (trace t p) (omega (arith, within-trace t b p i))
 
   -- any table with the same words in the cells listed gives the same answer
   pub locality : (u : List ℕ) → SameAt (answerTo t p) t u → answerTo u p ≡ answerTo t p

@@ -2,7 +2,7 @@
 ghost use mathlib.Core.Path.{_≡_};
 ghost use mathlib.Core.List.{[]};
 ghost use Prim.Native.Nat.{_+_, _<_};
-ghost use lib.ListN.{length, set};
+ghost use lib.ListN.{set};
 ghost use Rattle.answers.specs.Answers.{pushed, listed, answerWords};
 
 // The cells read, in the order read. Places past the count are 0.
@@ -98,7 +98,7 @@ impl Answer {
 
     // The answer that stands in words.
     pub fn of_words(words: [u32; 18]) -> Answer
-        ensures { λ r. ⌜ ((a : Answer) → length (a .cells .at) ≡ 15 → words ≡ answerWords a → r ≡ a) ⌝ }
+        ensures { λ r. ⌜ answerWords r ≡ words ⌝ }
     {
         let at = [
             words[2],

@@ -1,3 +1,3 @@
 -- The definitions that the contracts of `plain_steps` cite.
 pub mod Same
-pub mod Short
+pub mod Strings

@@ -2,9 +2,9 @@
 ghost use Prim.Native.Nat.{_+_, _-_, _<_, _≤_};
 
 // A power of two, and its exponent.
-pub struct Power {
-    pub exponent: usize,
-    pub value: usize,
+pub(crate) struct Power {
+    pub(crate) exponent: usize,
+    pub(crate) value: usize,
 }
 
 // The largest power of two not above x; of 0, it is 1.

@@ -1,13 +1,19 @@
 // The shapes as strings of downs and ups. A string is a number: a leading one, then its steps, 0 for down and 1 for up. So increasing numbers go by length,
 // then by string with down before up.
-ghost use Prim.Native.Nat.{_<_};
-ghost use Rattle.plain_steps.specs.Short.{Short};
+ghost use mathlib.Core.Path.{_≡_};
+ghost use mathlib.Core.Bool.{true, false};
+ghost use Prim.Native.Nat.{_+_, _<_};
+ghost use lib.ListN.{set};
+ghost use Rattle.plain_steps.specs.Strings.{goesRound, strings};
 use samples::words::add;
 use samples::words::less;
 use samples::words::put;
 
 // Whether a string goes round a group: from its last step back, each down ends an up, and none is left.
-fn goes_round(string: usize) -> bool {
+fn goes_round(string: usize) -> bool
+    requires { ⌜ string < 512 ⌝ }
+    ensures { λ r. ⌜ r ≡ goesRound string ⌝ }
+{
     let mut open = 0;
     let mut rest = string;
     while 1 < rest {
@@ -26,8 +32,9 @@ fn goes_round(string: usize) -> bool {
 
 // Puts a string at a place if it goes round a group. Answers the next place.
 fn noted(string: usize, at: usize, all: &mut [u32]) -> usize
-    requires { ⌜ (string < 512) × Short (now all) ⌝ }
-    ensures { λ _. ⌜ Short (now (all .exit)) ⌝ }
+    requires { ⌜ (string < 512) × (at < 512) ⌝ }
+    ensures with { λ r. ⌜ (goesRound string ≡ true → (now (all .exit) ≡ set (now (all .entry)) at string) × (r ≡ at + 1)) ⌝ }
+    ensures without { λ r. ⌜ (goesRound string ≡ false → (now (all .exit) ≡ now (all .entry)) × (r ≡ at)) ⌝ }
 {
     if !goes_round(string) {
         return at;
@@ -38,7 +45,7 @@ fn noted(string: usize, at: usize, all: &mut [u32]) -> usize
 
 // The strings of the 23 shapes of up to five entries, in the order of the shapes' numbers.
 pub fn shape_strings() -> [u32; 23]
-    ensures { λ r. ⌜ Short r ⌝ }
+    ensures { λ r. ⌜ r ≡ strings 511 ⌝ }
 {
     let mut all = [0u32; 23];
     let mut at = 0;

@@ -1,23 +1,22 @@
 // A walk: the cells read, in the order read, how many, and the word read last. At its end, number and word are the answer's.
 ghost use mathlib.Core.Path.{_≡_};
 ghost use mathlib.Core.Bool.{true};
-ghost use Prim.Native.Nat.{ℕ, _+_, _<_, _≤_};
-ghost use lib.ListN.{getD};
-ghost use Rattle.plain_steps.specs.Same.{Same};
+ghost use Prim.Native.Nat.{_+_, _<_, _≤_};
+ghost use Rattle.plain_steps.specs.Same.{SameCells, Same};
 use samples::words::get;
 use samples::words::narrow;
 use samples::words::wide;
 
 pub struct Walk {
-    pub number: usize,
-    pub word: usize,
-    pub count: usize,
-    pub cells: [u32; 15],
+    pub(crate) number: usize,
+    pub(crate) word: usize,
+    pub(crate) count: usize,
+    pub(crate) cells: [u32; 15],
 }
 
 // Whether two lists of fifteen cells are the same.
 fn same_cells(a: [u32; 15], b: [u32; 15]) -> bool
-    ensures { λ r. ⌜ (r ≡ true → (i : ℕ) → i < 15 → getD a i 0 ≡ getD b i 0) ⌝ }
+    ensures { λ r. ⌜ (r ≡ true → SameCells a b) × (SameCells a b → r ≡ true) ⌝ }
 {
     let mut i = 0;
     while i < 15 {
@@ -90,7 +89,7 @@ impl Walk {
 
     // Whether an answer is the walk's, in its number, its result word, its count and all fifteen places.
     pub fn same(self, number: u32, word: u32, count: u32, cells: [u32; 15]) -> bool
-        ensures { λ r. ⌜ (r ≡ true → Same self number word count cells) ⌝ }
+        ensures { λ r. ⌜ (r ≡ true → Same self number word count cells) × (Same self number word count cells → r ≡ true) ⌝ }
     {
         if self.number != wide(number) {
             return false;

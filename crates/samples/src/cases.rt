@@ -1,5 +1,7 @@
-// The lists, line by line of what `trials` prints: each with its length, and with the words of the table and of the space to try it with.
+// The lists, line by line of what `preparing_trials` prints: each with its length, and with the words of the table and of the space to try it with.
+ghost use mathlib.Core.Path.{_≡_};
 ghost use Prim.Native.Nat.{_≤_};
+ghost use Rattle.samples.specs.Cases.{countOf, room, Lengths};
 use crate::codings::any_coded;
 use crate::codings::any_list;
 use crate::codings::grown_coded;
@@ -62,7 +64,7 @@ fn size_at(k: usize) -> usize
 
 // How many lists a line has. There are 53 sizes, each with two numberings.
 pub fn count_at(line: usize) -> usize
-    ensures { λ r. ⌜ (1 ≤ r) × (r ≤ 1748) ⌝ }
+    ensures { λ r. ⌜ r ≡ countOf line ⌝ }
 {
     if line < KINDS {
         return 212;
@@ -129,7 +131,7 @@ fn list_at(line: usize, k: usize, seed: usize, parents: &mut [u32]) -> usize
 // W, of a list of up to 512 entries.
 fn table_words(n: usize) -> usize
     requires { ⌜ n ≤ 512 ⌝ }
-    ensures { λ r. ⌜ r ≤ 7421 ⌝ }
+    ensures { λ r. ⌜ (r ≡ room n) × (r ≤ 7421) ⌝ }
 {
     4 + 11 * n + 21 * (n / 6)
 }
@@ -137,7 +139,7 @@ fn table_words(n: usize) -> usize
 // The lengths of a line's case: table and space have up to three words to spare, or are too short.
 fn lengths(line: usize, n: usize, seed: usize) -> Case
     requires { ⌜ n ≤ 512 ⌝ }
-    ensures { λ r. ⌜ (r .n ≤ 512) × (r .table ≤ 7424) × (r .space ≤ 3075) ⌝ }
+    ensures { λ r. ⌜ Lengths line r ⌝ }
 {
     let spare = pick(seed, 4);
     let words = table_words(n);
@@ -180,7 +182,7 @@ fn fault_at(line: usize, k: usize) -> usize {
 
 // The k-th case of a line, with its list in `parents`.
 pub fn case_at(line: usize, k: usize, parents: &mut [u32]) -> Case
-    ensures { λ r. ⌜ (r .n ≤ 512) × (r .table ≤ 7424) × (r .space ≤ 3075) ⌝ }
+    ensures { λ r. ⌜ Lengths line r ⌝ }
 {
     let seed = next(next(add(k, times(10000, line))));
     let n = list_at(line, k, seed, parents);

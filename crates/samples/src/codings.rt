@@ -68,8 +68,8 @@ pub(crate) fn grown_list(n: usize, code: usize, parents: &mut [u32]) {
 
 // A list among those of 1 to some entries.
 pub(crate) struct Coded {
-    pub n: usize,
-    pub code: usize,
+    pub(crate) n: usize,
+    pub(crate) code: usize,
 }
 
 // The k-th of the any_lists of 1 to 4 entries.

@@ -2,7 +2,7 @@
 ghost use mathlib.Core.Path.{_≡_};
 ghost use Prim.Native.Nat.{_+_, _-_, _*_, _%_, _^_, _≤_, min};
 ghost use lib.ListN.{getD, set};
-ghost use Rattle.samples.specs.Words.{narrowed};
+ghost use Rattle.samples.specs.Words.{narrowed, remainderOf};
 
 pub const TOP: usize = 4294967295;
 
@@ -66,7 +66,7 @@ pub(crate) fn quotient(a: usize, b: usize) -> usize {
 }
 
 pub(crate) fn remainder(a: usize, b: usize) -> usize
-    ensures { λ r. ⌜ r ≤ b - 1 ⌝ }
+    ensures { λ r. ⌜ (r ≡ remainderOf a b) × (r ≤ b - 1) ⌝ }
 {
     if b == 0 {
         return 0;

@@ -3,5 +3,6 @@ pub mod Sizes
 pub mod Rule
 pub mod Heights
 pub mod Turns
+pub mod Depths
 pub mod Rank
 pub mod Ranking

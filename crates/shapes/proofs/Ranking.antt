@@ -5,13 +5,14 @@ use Prim.Native.Nat.{ℕ, zero, suc, _+_, _-_, _≤_, _<_}
 use native.Mathlib.Numerals.{add-one}
 use native.Mathlib.Omega.{arith}
 use native.Mathlib.Nat.{zero-add, suc-add, add-suc, sub-self, zero-sub, not-suc-le-zero}
-use lib.ListN.{length, getD, take, drop, length-append, length-map, length-drop, drop-of-length-le, List·getD-map}
+use lib.ListN.{length, getD, take, drop, length-append, length-map, length-take, length-drop, take-append-drop, drop-of-length-le, List·getD-map}
 use lib.Seq.{drop-cons, take-at}
 use Rattle.tree.specs.Forest.{Forest, empty, node, forestSize}
 use Rattle.shapes.specs.Walks.{walkRound, walks, shapes, shapeNumber}
 use Rattle.tree.specs.Forest.{levels}
 use Rattle.tree.proofs.Levels.{levels-length}
 use Rattle.shapes.proofs.Turns.{Goes, goes-levels}
+use Rattle.shapes.proofs.Depths.{goes-forest}
 use Rattle.shapes.proofs.Rank.{ways, rankFrom, after-more, after-deeper, number-rank}
 
 -- there is a way on from every depth, and from a deeper entry there are no fewer; the shapes of more entries are no fewer
@@ -63,7 +64,13 @@ lowered-at group i = ap (getD (lowered group) i) (sym (zero-sub (getD group 0 0)
 lowered-levels : (group : List ℕ) (f : Forest) (d : ℕ) → group ≡ d ∷ levels (suc d) f → lowered group ≡ 0 ∷ levels 1 f
 lowered-levels group f d e = rw (e, sub-self, ← add-one d, levels-lower d 1 f)
 
--- of a group with these depths `sum` has been counted: the entries before place i are passed, the last of them `at` levels below the root
+-- depths that go as a group's do are a group's
+depths-forest : (group : List ℕ) → 0 < length group → Goes 0 (drop 1 (lowered group)) → (f : Forest) × (group ≡ getD group 0 0 ∷ levels (suc (getD group 0 0)) f)
+depths-forest [] h g = absurd (not-suc-le-zero h)
+depths-forest (d ∷ ds) h g = let t = goes-forest d ds g in (t .0, ap (_∷_ d) (t .1))
+
+-- of a group with these depths `sum` has been counted: the entries before place i are passed, the last of them `at` levels below the root;
+-- those to come go as a group's do just where all of them do
 pub record Ranked (L : ℕ) (group : List ℕ) (sum at i : ℕ) : Type 0 where
   pub few : length group ≤ L
   pub upto : i ≤ length group
@@ -71,12 +78,13 @@ pub record Ranked (L : ℕ) (group : List ℕ) (sum at i : ℕ) : Type 0 where
   pub room : sum + ways (length group - i) at ≤ length (shapes (length group))
   pub total : sum + rankFrom at (drop i (lowered group)) ≡ length (shapes (length group - 1)) + rankFrom 0 (drop 1 (lowered group))
   pub goes : Goes 0 (drop 1 (lowered group)) → Goes at (drop i (lowered group))
+  pub gone : Goes at (drop i (lowered group)) → Goes 0 (drop 1 (lowered group))
 
 pub start : (L : ℕ) (group : List ℕ) → 0 < length group → length group ≤ L → Ranked L group (length (shapes (length group - 1))) 0 1
 start L [] h b = absurd (not-suc-le-zero h)
 start L (x ∷ group) h b =
     let e : suc (length group) - 1 ≡ length group = omega arith in
-    record { few = b; upto = h; low = omega arith; room = rw e (omega (arith, length-append (shapes (length group)) (walks (length group) 0))); total = refl; goes = λ g. g }
+    record { few = b; upto = h; low = omega arith; room = rw e (omega (arith, length-append (shapes (length group)) (walks (length group) 0))); total = refl; goes = λ g. g; gone = λ g. g }
 
 module _ (L : ℕ) (group : List ℕ) (sum at i : ℕ) (r : Ranked L group sum at i) where
   -- what is counted is the number of a shape
@@ -86,15 +94,21 @@ module _ (L : ℕ) (group : List ℕ) (sum at i : ℕ) (r : Ranked L group sum a
       let k : L - length group + length group ≡ L = omega arith in
       omega (arith, r .room, ways-some (length group - i) at, rw k at (shapes-more (length group) (L - length group)))
 
-  -- at the end it is that of the group
-  pub finish : length group ≤ i → (f : Forest) (d : ℕ) → group ≡ d ∷ levels (suc d) f → sum ≡ shapeNumber L (walkRound f)
-  finish h f d e =
-      let n : length group ≡ suc (forestSize f) = ap length e ∙ ap suc (levels-length (suc d) f) in
-      let b : length group ≤ L = r .few in
-      let z : drop i (lowered group) ≡ [] = drop-of-length-le (lowered group) {i = i} (omega (arith, lowered-length group)) in
-      let t : sum + 0 ≡ length (shapes (length group - 1)) + rankFrom 0 (drop 1 (lowered group)) = rw z at (r .total) in
-      let k : suc (forestSize f) - 1 ≡ forestSize f = omega arith in
-      omega (arith, number-rank L f (omega arith), rw (n, k, lowered-levels group f d e) at t)
+  -- at the end none is left: the depths are a group's, and what is counted is the number of its shape
+  module _ (h : length group ≤ i) where
+    all : drop i (lowered group) ≡ []
+    all = drop-of-length-le (lowered group) {i = i} (omega (arith, lowered-length group))
+
+    pub finish : (f : Forest) (d : ℕ) → group ≡ d ∷ levels (suc d) f → sum ≡ shapeNumber L (walkRound f)
+    finish f d e =
+        let n : length group ≡ suc (forestSize f) = ap length e ∙ ap suc (levels-length (suc d) f) in
+        let b : length group ≤ L = r .few in
+        let t : sum + 0 ≡ length (shapes (length group - 1)) + rankFrom 0 (drop 1 (lowered group)) = rw all at (r .total) in
+        let k : suc (forestSize f) - 1 ≡ forestSize f = omega arith in
+        omega (arith, number-rank L f (omega arith), rw (n, k, lowered-levels group f d e) at t)
+
+    pub group-is : (f : Forest) × (group ≡ getD group 0 0 ∷ levels (suc (getD group 0 0)) f)
+    group-is = depths-forest group (omega (arith, r .low, r .upto)) (r .gone (rw all tt))
 
   module _ (h : i < length group) where
     next : drop i (lowered group) ≡ fall group i ∷ drop (i + 1) (lowered group)
@@ -125,6 +139,7 @@ module _ (L : ℕ) (group : List ℕ) (sum at i : ℕ) (r : Ranked L group sum a
             room = omega (arith, r .room);
             total = omega (arith, r .total);
             goes = λ g. subst (Goes at) n (r .goes g) .2;
+            gone = λ g. r .gone (rw n (low, omega arith, g));
           },
         )
 
@@ -135,3 +150,11 @@ module _ (depths : List ℕ) (from : ℕ) (f : Forest) (d : ℕ) (rest : List �
 
   pub part-fits : from + suc (forestSize f) ≤ length depths
   part-fits = omega (arith, length-drop from depths, ap length e, length-append (levels (suc d) f) rest, levels-length (suc d) f)
+
+-- and a part of these that is a group's depths stands before the rest of them
+module _ (depths : List ℕ) (from entries : ℕ) (f : Forest) (d : ℕ) (e : take entries (drop from depths) ≡ d ∷ levels (suc d) f) where
+  pub levels-part : drop from depths ≡ d ∷ (levels (suc d) f ++ drop entries (drop from depths))
+  levels-part = sym (take-append-drop entries (drop from depths)) ∙ ap (λ (l : List ℕ). l ++ drop entries (drop from depths)) e
+
+  pub levels-count : from + entries ≤ length depths → entries ≡ suc (forestSize f)
+  levels-count h = omega (arith, length-take entries (drop from depths), length-drop from depths, ap length e, levels-length (suc d) f)

@@ -5,11 +5,12 @@ pub use numbering::number;
 ghost use mathlib.Core.Path.{_≡_};
 ghost use Rattle.base.specs.Limits.{groupLimit};
 ghost use Rattle.shapes.specs.Climbs.{rowOf, rowsOf, Rule};
+use base::limits::LOCAL_NUMBERS;
 
 // A shape's part of the shape table: a row of five climbs (0 to 4) for each of five local numbers, 255 where there is none. There are 23 shapes; any
 // other number has only 255. A match with a literal in each arm copies one shape's cells from read-only tables; a constant array is rebuilt whole at
 // each call.
-pub fn rows(shape: u32) -> [[u8; 5]; 5]
+pub fn rows(shape: u32) -> [[u8; LOCAL_NUMBERS]; LOCAL_NUMBERS]
     ensures table { λ r. ⌜ r ≡ rowsOf groupLimit shape ⌝ }
     ensures rule { λ r. ⌜ Rule groupLimit shape r ⌝ }
 {
@@ -187,7 +188,7 @@ pub fn rows(shape: u32) -> [[u8; 5]; 5]
 
 // The row of climbs of one local number of a shape, for every number of either. Each arm takes its row at a constant place, so that the compiler reads
 // that row and not all five.
-pub fn row(shape: u32, local: u32) -> [u8; 5]
+pub fn row(shape: u32, local: u32) -> [u8; LOCAL_NUMBERS]
     ensures { λ r. ⌜ r ≡ rowOf groupLimit shape local ⌝ }
 {
     let all = rows(shape);
@@ -197,6 +198,6 @@ pub fn row(shape: u32, local: u32) -> [u8; 5]
         2 => all[2],
         3 => all[3],
         4 => all[4],
-        _ => [255; 5],
+        _ => [255; LOCAL_NUMBERS],
     }
 }

@@ -1,18 +1,17 @@
 // The number of a group's shape, from the depths of its entries.
 ghost use mathlib.Core.Path.{_≡_};
-ghost use mathlib.Core.List.{List, _∷_, _++_};
-ghost use Prim.Native.Nat.{ℕ, suc, _≤_, _<_};
-ghost use lib.ListN.{length, drop};
+ghost use Prim.Native.Nat.{_≤_, _<_};
+ghost use lib.ListN.{length};
 ghost use Rattle.base.specs.Limits.{groupLimit, shapeCount};
 ghost use Rattle.base.specs.Lists.{below};
-ghost use Rattle.tree.specs.Forest.{Forest, forestSize};
 ghost use Rattle.shapes.specs.Walks.{walkRound, walks, shapes, shapeNumber};
-ghost use Rattle.tree.specs.Forest.{levels};
-ghost use Rattle.shapes.specs.Numbered.{Numbered};
+ghost use Rattle.shapes.specs.Numbered.{Numbered, OfGroup};
 use base::Position;
+use base::limits::LOCAL_NUMBERS;
+use base::limits::SHAPE_COUNT;
 
 // How many walks go on from each depth, 0 to 4, with so many downs to come.
-fn ways(downs: usize) -> [u32; 5]
+fn ways(downs: usize) -> [u32; LOCAL_NUMBERS]
     requires { ⌜ downs < groupLimit ⌝ }
     ensures { λ r. ⌜ r ≡ below groupLimit (λ c. length (walks downs c)) ⌝ }
 {
@@ -52,11 +51,11 @@ fn ranked(group: &[u32]) -> u32
     while i < group.len() {
         let depth = group[i];
         if depth <= root {
-            return 23;
+            return SHAPE_COUNT;
         }
         let below = (depth - root) as usize;
         if at + 1 < below {
-            return 23;
+            return SHAPE_COUNT;
         }
         let row = ways(group.len() - i);
         sum += row[at] - row[below - 1];
@@ -69,15 +68,16 @@ fn ranked(group: &[u32]) -> u32
 // The number of the shape of the group whose root stands at position `from` of a list of depths in preorder and that has so many entries; 23 where
 // the depths there are not those of a group of 1 to 5 entries.
 pub fn number(depths: &[u32], from: Position, entries: usize) -> u32
-    ensures is { λ r. ⌜ ((f : Forest) (d : ℕ) (rest : List ℕ) → drop (from .0) (now (depths .entry)) ≡ d ∷ (levels (suc d) f ++ rest) → entries ≡ suc (forestSize f) → entries ≤ groupLimit → r ≡ shapeNumber groupLimit (walkRound f)) ⌝ }
+    ensures is { λ r. ⌜ OfGroup (now (depths .entry)) (from .0) entries (λ f. r ≡ shapeNumber groupLimit (walkRound f)) ⌝ }
     ensures small { λ r. ⌜ r ≤ shapeCount ⌝ }
+    ensures none { λ r. ⌜ (OfGroup (now (depths .entry)) (from .0) entries (λ f. ⊥) → r ≡ shapeCount) ⌝ }
 {
     if entries == 0
-        || 5 < entries
+        || LOCAL_NUMBERS < entries
         || depths.len() < entries
         || depths.len() - entries < from.0 as usize
     {
-        return 23;
+        return SHAPE_COUNT;
     }
     let end = from.0 as usize + entries;
     ranked(&depths[from.0 as usize..end])

@@ -1,13 +1,14 @@
--- `Answer::of_words` meets its contract. Assumes nothing.
+-- `Answer::of_words` meets its contract: its words are the eighteen, one by one. Assumes nothing.
 use borrow.Author.Needs.{needs}
 use Rattle.base.specs.Lists.{each}
-use Rattle.answers.proofs.Words.{back}
+use Rattle.answers.specs.Answers.{answerWords}
+use Rattle.answers.proofs.Words.{one-by-one}
 use Rattle.answers.proofs.Answer.of_words.Statement.{statement}
 use Rattle.answers.proofs.Answer.of_words.Tie as tie
 
 returns : tie.Need-returns
-unfolding each
-returns c a e q = back a _ e q
+unfolding answerWords each
+returns c = one-by-one 18 _ (search needs)
 
 pub of-words-spec : {M : Type 1} → statement M
 of-words-spec =

@@ -1,20 +1,15 @@
--- `strings::shape_strings` meets its contract. The invariant: there are 23 places, and every string so far is short. Assumes nothing.
-use mathlib.Core.Path.{_≡_, refl}
-use Prim.Native.Nat.{ℕ, zero, suc, _-_}
+-- `strings::shape_strings` meets its contract. The invariant: the strings before the next are listed. Assumes nothing.
+use mathlib.Core.Path.{_≡_}
+use Prim.Native.Nat.{_-_, _≤_}
 use native.Mathlib.Omega.{arith}
 use borrow.Author.Needs.{needs}
-use lib.ListN.{length, replicate}
-use Rattle.plain_steps.specs.Short.{Short}
+use lib.ListN.{length}
+use Rattle.plain_steps.proofs.Listing.{Listed, start, small, stepped, finish}
 use Rattle.plain_steps.proofs.strings.shape_strings.Statement.{statement}
 use Rattle.plain_steps.proofs.strings.shape_strings.Tie as tie
 
-zeros : (n : ℕ) → Short (replicate n 0)
-zeros zero i = omega arith
-zeros (suc n) zero = omega arith
-zeros (suc n) (suc i) = zeros n i
-
 abbrev Inv-loop : tie.InvT-loop
-Inv-loop all₀ at₀ string₀ all at string = (length all ≡ 23) × Short all
+Inv-loop all₀ at₀ string₀ all at string = (length all ≡ 23) × (string ≤ 512) × Listed all at string
 
 abbrev μ-loop : tie.MeasureT-loop
 μ-loop all₀ at₀ string₀ all at string = 512 - string
@@ -25,10 +20,10 @@ shape-strings-spec =
     (tie.spec
     Inv-loop
     μ-loop
-    (λ c. (refl, zeros 23))
+    (λ c. (search needs, omega arith, start))
     (λ c. search needs)
-    (λ c κs. (omega arith, c .before .before .loop .inv .1))
+    (λ c κs. (omega arith, omega (arith, small _ _ _ (c .before .before .loop .inv .2))))
     (λ c. omega arith)
     (λ c. omega arith)
-    (λ c. (search needs, c .before .noted .ensures))
-    (λ c. c .before .loop .inv .1))
+    (λ c. (search needs, omega arith, stepped _ _ _ (c .before .before .before .before .loop .inv .2) (omega arith) _ _ (c .before .noted .ensures .0) (c .before .noted .ensures .1)))
+    (λ c. finish _ _ _ (c .before .loop .inv .2) (omega arith)))

@@ -1,5 +1,5 @@
 -- `walking::same_cells` meets its contract. The invariant: the places passed hold the same. Assumes nothing.
-use mathlib.Core.Path.{_≡_}
+use mathlib.Core.Path.{_≡_, refl}
 use mathlib.Core.Bool.{false≢true}
 use Prim.Native.Nat.{ℕ, _-_, _≤_, _<_}
 use native.Mathlib.Omega.{arith}
@@ -26,8 +26,8 @@ same-cells-spec =
     (λ c. search needs)
     (λ c. search needs)
     (λ c. search needs)
-    (λ c e. absurd (false≢true e))
+    (λ c. (λ e. absurd (false≢true e), λ s. absurd (c .if1 .taken (s _ (omega arith)))))
     (λ c. omega arith)
     (λ c. omega arith)
     (λ c. (omega arith, below-more _ _ (c .before .before .loop .inv .1) (omega arith)))
-    (λ c e i h. c .before .loop .inv .1 i (omega arith)))
+    (λ c. (λ e i h. c .before .loop .inv .1 i (omega arith), λ s. refl)))

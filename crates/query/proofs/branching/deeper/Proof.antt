@@ -1,15 +1,15 @@
 -- `branching::deeper` meets its contract. Assumes nothing.
-use mathlib.Core.Path.{_≡_}
+use mathlib.Core.Path.{_≡_, _∙_}
 use mathlib.Core.List.{List}
 use Prim.Native.Nat.{ℕ, _≤_}
-use lib.Dec.{lit≤}
 use lib.ListN.{length}
 use borrow.Author.Needs.{needs}
 use Rattle.answers.specs.Answers.{answerTo, answerWords}
 use Rattle.answers.specs.Steps.{level, inside, deeper}
 use Rattle.answers.specs.declared.Answer.{Answer}
 use Rattle.answers.proofs.Bounds.{level-within}
-use Rattle.answers.proofs.Answering.{few, fifteen-places}
+use Rattle.answers.proofs.Answering.{few}
+use Rattle.answers.proofs.Words.{words-same}
 use Rattle.query.proofs.Behind.{answer-held}
 use Rattle.query.proofs.Relating.{inner-goes}
 use Rattle.query.proofs.Walking.{steps, le-no}
@@ -17,8 +17,8 @@ use Rattle.query.proofs.branching.deeper.Statement.{statement}
 use Rattle.query.proofs.branching.deeper.Tie as tie
 
 -- the answer that stands in the words of a level lookup
-looked : (t w : List ℕ) (v d : ℕ) (a : Answer) → ((b : Answer) → length (b .cells .at) ≡ 15 → w ≡ answerWords b → a ≡ b) → w ≡ answerWords (answerTo t (level (length t) v d)) → a ≡ answerTo t (level (length t) v d)
-looked t w v d a h e = h (answerTo t (level (length t) v d)) (fifteen-places t 10 (level (length t) v d) (level-within (length t) v d) (lit≤ tt)) e
+looked : (t w : List ℕ) (v d : ℕ) (a : Answer) → answerWords a ≡ w → w ≡ answerWords (answerTo t (level (length t) v d)) → a ≡ answerTo t (level (length t) v d)
+looked t w v d a h e = words-same a _ (h ∙ e)
 
 ten : (t : List ℕ) (v d : ℕ) (a : Answer) → a ≡ answerTo t (level (length t) v d) → a .cells .count ≤ 10
 ten t v d a e = rw e (few t 10 (level (length t) v d) (level-within (length t) v d))

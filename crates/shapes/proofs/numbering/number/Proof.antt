@@ -1,13 +1,14 @@
 -- `shapes::numbering::number` meets its contract: what it hands on is the group's part of the depths. Assumes nothing.
-use mathlib.Core.Path.{_≡_}
+use mathlib.Core.Path.{_≡_, refl}
+use mathlib.Core.List.{_∷_}
 use mathlib.Core.Logic.{⊎-elim}
 use Prim.Native.Nat.{suc, _+_, _-_, _≤_}
 use native.Mathlib.Omega.{arith}
 use borrow.Author.Needs.{needs}
 use borrow.Author.Tests.{ltb-false, ltb-true}
-use lib.ListN.{length, length-take, length-drop}
-use Rattle.tree.specs.Forest.{forestSize}
-use Rattle.shapes.proofs.Ranking.{part-levels, part-fits}
+use lib.ListN.{length, take, drop, length-take, length-drop}
+use Rattle.tree.specs.Forest.{levels, forestSize}
+use Rattle.shapes.proofs.Ranking.{part-levels, part-fits, levels-part, levels-count}
 use Rattle.shapes.proofs.numbering.number.Statement.{statement}
 use Rattle.shapes.proofs.numbering.number.Tie as tie
 
@@ -28,7 +29,7 @@ returns c =
           (λ w. omega arith)
           (⊎-elim (λ w. omega (arith, ltb-true)) (⊎-elim (λ w. omega (arith, ltb-true)) (λ w. omega (arith, ltb-true))))
           (c .if1 .came))),
-      omega arith,
+      (omega arith, λ never. refl),
     )
 
 -- what the tests leave is a part of the depths, which is the group's
@@ -62,7 +63,15 @@ returns-2 c =
       (λ f d rest e n b.
           let k : a .from .0 + a .entries - a .from .0 ≡ suc (forestSize f) = omega arith in
           c .ranked .ensures .is f d (rw k (part-levels (a .depths .now) (a .from .0) f d rest e))),
-      c .ranked .ensures .small,
+      (
+        c .ranked .ensures .small,
+        λ never.
+            c .ranked .ensures .none
+            (λ f d e.
+            let k : a .from .0 + a .entries - a .from .0 ≡ a .entries = omega arith in
+            let q : take (a .entries) (drop (a .from .0) (a .depths .now)) ≡ d ∷ levels (suc d) f = rw k at e in
+            never f d _ (levels-part (a .depths .now) (a .from .0) (a .entries) f d q) (levels-count (a .depths .now) (a .from .0) (a .entries) f d q (omega (arith, ltb-false))) (omega (arith, ltb-false))),
+      ),
     )
 
 pub number-spec : {M : Type 1} → statement M

@@ -10,7 +10,7 @@ use Rattle.base.proofs.Lists.{below-at}
 use Rattle.shapes.specs.Walks.{walks}
 use Rattle.shapes.specs.Numbered.{Numbered}
 use Rattle.shapes.proofs.Rank.{ways}
-use Rattle.shapes.proofs.Ranking.{fall, Ranked, start, small, finish, due, stepped}
+use Rattle.shapes.proofs.Ranking.{fall, Ranked, start, small, finish, group-is, due, stepped}
 use Rattle.shapes.proofs.numbering.ranked.Statement.{statement}
 use Rattle.shapes.proofs.numbering.ranked.Tie as tie
 
@@ -34,10 +34,14 @@ module _ {group : List ℕ} {sum at i : ℕ} (r : Ranked groupLimit group sum at
       record { fewer = t .0; next = t .1; fits = small groupLimit group _ _ _ (t .1) }
 
   refused : i < length group → (getD group 0 0 < getD group i 0 → fall group i ≤ at + 1 → ⊥) → Numbered group 23
-  refused h never = record { is = λ f d e. let k = due groupLimit group sum at i r h f d e in absurd (never (k .0) (k .1)); small = omega arith }
+  refused h never = record { is = λ f d e. let k = due groupLimit group sum at i r h f d e in absurd (never (k .0) (k .1)); small = omega arith; none = λ n. refl }
 
   done : length group ≤ i → Numbered group sum
-  done h = record { is = finish groupLimit group sum at i r h; small = omega (arith, small groupLimit group sum at i r) }
+  done h = record {
+    is = finish groupLimit group sum at i r h;
+    small = omega (arith, small groupLimit group sum at i r);
+    none = λ n. let t = group-is groupLimit group sum at i r h in absurd (n (t .0) _ (t .1));
+  }
 
 -- the count stands where it should, and each turn passes an entry
 abbrev Inv-loop : tie.InvT-loop

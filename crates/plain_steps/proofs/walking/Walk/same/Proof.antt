@@ -9,10 +9,10 @@ same-spec =
     tie.close
     (tie.spec
     (λ c κs. tt)
-    (λ c e. absurd (false≢true e))
+    (λ c. (λ e. absurd (false≢true e), λ s. absurd (c .if1 .taken (omega arith))))
     (λ c κs. tt)
-    (λ c e. absurd (false≢true e))
+    (λ c. (λ e. absurd (false≢true e), λ s. absurd (c .if2 .taken (omega arith))))
     (λ c κs. tt)
-    (λ c e. absurd (false≢true e))
+    (λ c. (λ e. absurd (false≢true e), λ s. absurd (c .if3 .taken (omega arith))))
     (λ c κs. tt)
-    (λ c e. record { number = omega arith; word = omega arith; count = omega arith; cells = c .same-cells .ensures e }))
+    (λ c. (λ e. record { number = omega arith; word = omega arith; count = omega arith; cells = c .same-cells .ensures .0 e }, λ s. c .same-cells .ensures .1 (s .cells))))

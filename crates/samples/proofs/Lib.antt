@@ -1,0 +1,2 @@
+-- Laws of the fields of a text.
+pub mod Commas
