@@ -6,4 +6,4 @@ pub mod Answering
 pub mod Numbers
 pub mod Runs
 pub mod Known
-pub mod Words
+pub mod AnswerWords

@@ -1,2 +1,2 @@
 -- How preparing's answer stands in words.
-pub mod Words
+pub mod ReplyWords

@@ -6,7 +6,7 @@ ghost use Rattle.base.specs.Limits.{tableWords, spaceWords};
 ghost use Rattle.table.specs.Preparing.{preparing, tableAfter, spaceAfter};
 ghost use Rattle.answers.specs.Answers.{answerTo, answerWords};
 ghost use Rattle.answers.specs.Steps.{level, climbing, rating, ancestry, branch};
-ghost use Rattle.exports.specs.Words.{replyWords};
+ghost use Rattle.exports.specs.ReplyWords.{replyWords};
 use base::Node;
 use base::limits::space_words;
 use base::limits::table_words;

@@ -10,7 +10,7 @@ use Rattle.base.specs.Lists.{below}
 use Rattle.base.proofs.Lists.{below-at, at-past}
 use Rattle.tree.specs.Parents.{up}
 use Rattle.shapes.specs.Walks.{Walk, shapes}
-use Rattle.shapes.specs.Climbs.{parentList, reached, mark, rowOf, rowsOf, Says, Rule}
+use Rattle.shapes.specs.Climbs.{parentList, reached, mark, rowOf, rowsOf, CellOf, Rule}
 use Rattle.shapes.proofs.Sizes.{reached-below}
 
 -- a shape's row of a local number
@@ -24,7 +24,7 @@ unfolding rowsOf rowOf
 cell-is L s l k hl hk = rw (below-at {A = List ℕ} L _ [] l hl, below-at {A = ℕ} L _ 0 k hk)
 
 -- a number below 255 is told from none
-says : (o : Option ℕ) → ((j : ℕ) → o ≡ some j → j < 255) → Says o (mark o)
+says : (o : Option ℕ) → ((j : ℕ) → o ≡ some j → j < 255) → CellOf o (mark o)
 says none h = refl
 says (some j) h = (refl, h j refl)
 

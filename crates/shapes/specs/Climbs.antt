@@ -39,11 +39,11 @@ rowOf L s l = below L (λ k. mark (reached L s l k))
 unfoldable pub rowsOf : ℕ → ℕ → List (List ℕ)
 rowsOf L s = below L (rowOf L s)
 
--- what a cell says where the climb gives o: the local number reached, which is no 255; or 255 where there is none
-abbrev pub Says : Option ℕ → ℕ → Type 0
-Says none c = c ≡ 255
-Says (some j) c = (c ≡ j) × (c < 255)
+-- the cell where the climb gives o: the local number reached, which is no 255; or 255 where there is none
+abbrev pub CellOf : Option ℕ → ℕ → Type 0
+CellOf none c = c ≡ 255
+CellOf (some j) c = (c ≡ j) × (c < 255)
 
--- the rule of the shape table for the rows of shape s: each cell says what the climb in the shape's string gives
+-- the rule of the shape table for the rows of shape s: each cell is what the climb in the shape's string gives
 abbrev pub Rule : ℕ → ℕ → List (List ℕ) → Type 0
-Rule L s rows = (l k : ℕ) → l < L → k < L → Says (reached L s l k) (getD (getD rows l []) k 0)
+Rule L s rows = (l k : ℕ) → l < L → k < L → CellOf (reached L s l k) (getD (getD rows l []) k 0)

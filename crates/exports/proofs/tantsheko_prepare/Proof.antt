@@ -5,7 +5,7 @@ use Prim.Native.Nat.{ℕ}
 use borrow.Author.Needs.{needs}
 use Rattle.base.specs.Numbers.{Outcome}
 use Rattle.base.specs.Numbers.{Says}
-use Rattle.exports.specs.Words.{replyWords}
+use Rattle.exports.specs.ReplyWords.{replyWords}
 use Rattle.exports.proofs.tantsheko_prepare.Statement.{statement}
 use Rattle.exports.proofs.tantsheko_prepare.Tie as tie
 

@@ -2,7 +2,7 @@
 use borrow.Author.Needs.{needs}
 use Rattle.base.specs.Lists.{each}
 use Rattle.answers.specs.Answers.{answerWords}
-use Rattle.answers.proofs.Words.{one-by-one}
+use Rattle.answers.proofs.AnswerWords.{one-by-one}
 use Rattle.answers.proofs.Answer.of_words.Statement.{statement}
 use Rattle.answers.proofs.Answer.of_words.Tie as tie
 

@@ -4,7 +4,7 @@ use mathlib.Core.List.{[], _∷_, _++_}
 use borrow.Author.Needs.{needs}
 use Rattle.base.specs.Lists.{each}
 use Rattle.answers.specs.Answers.{answerWords}
-use Rattle.answers.proofs.Words.{one-by-one}
+use Rattle.answers.proofs.AnswerWords.{one-by-one}
 use Rattle.answers.proofs.Answer.words.Statement.{statement}
 use Rattle.answers.proofs.Answer.words.Tie as tie
 

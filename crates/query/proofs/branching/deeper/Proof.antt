@@ -9,7 +9,7 @@ use Rattle.answers.specs.Steps.{level, inside, deeper}
 use Rattle.answers.specs.declared.Answer.{Answer}
 use Rattle.answers.proofs.Bounds.{level-within}
 use Rattle.answers.proofs.Answering.{few}
-use Rattle.answers.proofs.Words.{words-same}
+use Rattle.answers.proofs.AnswerWords.{words-same}
 use Rattle.query.proofs.Behind.{answer-held}
 use Rattle.query.proofs.Relating.{inner-goes}
 use Rattle.query.proofs.Walking.{steps, le-no}
