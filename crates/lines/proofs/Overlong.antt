@@ -1,5 +1,5 @@
 -- A line that is longer than any known form says nothing, whatever follows it. Assumes nothing.
-use mathlib.Core.Path.{_≡_, refl, ap, _∙_}
+use mathlib.Core.Path.{_≡_, refl, sym, ap, _∙_}
 use mathlib.Core.Logic.{_⊎_, inl, inr}
 use mathlib.Core.List.{List, [], _∷_, _++_}
 use mathlib.Core.Bool.{Bool, true, false, cond}
@@ -12,15 +12,15 @@ use Rattle.lines.specs.Text.{comma, lineFeed}
 use Rattle.lines.specs.Fields.{parted, fields, number, countOf, parentField, parentOf, asked, questionOf}
 use Rattle.lines.specs.Reads.{headed}
 use Rattle.lines.specs.Counter.{badLine, answering, listing, opening}
-use Rattle.lines.specs.Stages.{Stage, counting, parenting, asking, ended, remaining, lineNumber, mostBytes}
+use Rattle.lines.specs.Stages.{Stage, counting, parenting, asking, ended, remaining, onEnd, mostBytes}
 use Rattle.lines.proofs.Digits.{read-long}
 use Rattle.lines.proofs.Parting.{Plain, Join, plain-or, parted-some, parted-onto}
 use Rattle.lines.proofs.Sayings.{count-is, parent-is}
-use Rattle.lines.proofs.Questions.{reads-none, both, both-none, asked-plain, asked-join, question-is}
+use Rattle.lines.proofs.Questions.{both, both-none, asked-plain, asked-join, question-is}
 
 -- a number has at most ten bytes, and so has the field of a parent
 number-overlong : (f : List ℕ) → 10 < length f → number f ≡ none
-number-overlong f h = reads-none (number f) false 0 refl (read-long f h)
+number-overlong f h = sym (read-long f h)
 
 parentField-overlong : (f : List ℕ) → 10 < length f → parentField f ≡ none
 unfolding parentField
@@ -71,16 +71,16 @@ module _ (l : List ℕ) (long : mostBytes < length l) where
   long-parent m ps k [] = refl
   long-parent m ps k (r ∷ ls) = rw (parent-overlong l (omega arith))
 
-long-question : (l : List ℕ) → mostBytes < length l → (ps : List ℕ) (k : ℕ) (t : List (List ℕ)) → answering ps k (l ∷ t) ≡ badLine k
+long-question : (l : List ℕ) → mostBytes < length l → (table : List ℕ) (k : ℕ) (t : List (List ℕ)) → answering table k (l ∷ t) ≡ badLine k
 unfolding answering Option·elim
-long-question [] h ps k t = absurd (omega arith)
-long-question (b ∷ l) h ps k [] = refl
-long-question (b ∷ l) h ps k (r ∷ ls) = rw (question-overlong (b ∷ l) h)
+long-question [] h table k t = absurd (omega arith)
+long-question (b ∷ l) h table k [] = refl
+long-question (b ∷ l) h table k (r ∷ ls) = rw (question-overlong (b ∷ l) h)
 
--- bytes without a line feed that are too many for a line, whatever follows
-pub long-text : (l rest : List ℕ) → Plain lineFeed l → mostBytes < length l → (s : Stage) → (s ≡ ended → ⊥) → remaining s (l ++ rest) ≡ badLine (lineNumber s)
-unfolding remaining lineNumber
-long-text l rest p h s n = go s n
+-- bytes without a line feed that are too many for a line, whatever follows: as if the input ended there
+pub long-text : (l rest : List ℕ) → Plain lineFeed l → mostBytes < length l → (s : Stage) → remaining s (l ++ rest) ≡ onEnd s l
+unfolding remaining onEnd
+long-text l rest p h s = go s
   where
     first : List ℕ
     first = l ++ parted-some lineFeed rest .0
@@ -94,8 +94,12 @@ long-text l rest p h s n = go s n
     long : mostBytes < length first
     long = omega (arith, length-append l (parted-some lineFeed rest .0))
 
-    go : (s : Stage) → (s ≡ ended → ⊥) → remaining s (l ++ rest) ≡ badLine (lineNumber s)
-    go counting n = ap opening are ∙ long-count first long others
-    go (parenting m ps k) n = ap (listing (suc m) ps k) are ∙ long-parent first long m ps k others
-    go (asking ps k) n = ap (answering ps k) are ∙ long-question first long ps k others
-    go ended n = absurd (n refl)
+    cut : (l : List ℕ) → mostBytes < length l → (table : List ℕ) (k : ℕ) → badLine k ≡ onEnd (asking table k) l
+    cut [] h table k = absurd (omega arith)
+    cut (b ∷ l) h table k = refl
+
+    go : (s : Stage) → remaining s (l ++ rest) ≡ onEnd s l
+    go counting = ap opening are ∙ long-count first long others
+    go (parenting m ps k) = ap (listing (suc m) ps k) are ∙ long-parent first long m ps k others
+    go (asking table k) = ap (answering table k) are ∙ long-question first long table k others ∙ cut l h table k
+    go ended = refl

@@ -2,27 +2,25 @@
 use mathlib.Core.Path.{_≡_, refl, sym, ap, _∙_}
 use mathlib.Core.List.{List, [], _∷_, _++_, append-nil}
 use mathlib.Core.Bool.{Bool, true, false, cond}
-use mathlib.Core.Option.{Option, none, some, Option·elim, orElse}
+use mathlib.Core.Option.{Option, none, some, Option·elim}
 use Prim.Native.Nat.{ℕ, zero, suc}
-use lib.ListN.{length}
 use lib.Dec.{ltb}
 use Rattle.base.specs.Numbers.{Outcome}
-use Rattle.tree.specs.Faults.{listFault}
-use Rattle.table.specs.Preparing.{countFault}
+use Rattle.table.specs.Table.{tableOf}
 use Rattle.lines.specs.Text.{lineFeed}
 use Rattle.lines.specs.Fields.{parted, countOf, parentOf, Question, questionOf}
-use Rattle.lines.specs.Counter.{mostListed, badLine, badList, headerRow, answerRow, answering, judged, listing, opening}
+use Rattle.lines.specs.Counter.{mostListed, badLine, badList, headerRow, answerRow, answering, fault, judged, listing, opening}
 use Rattle.lines.proofs.Parting.{Plain, parted-some, parted-plain, parted-join}
 use Rattle.lines.specs.Stages.{Stage, counting, parenting, asking, ended, remaining, Turn, ends, listed, onLine, onEnd}
 
 -- the list so far, once its last line is read
 listed-text : (m : ℕ) (ps : List ℕ) (k : ℕ) (rest : List ℕ) → listing m ps k (parted lineFeed rest) ≡ listed m ps k .out ++ remaining (listed m ps k .next) rest
 unfolding listing listed judged remaining Option·elim
-listed-text zero ps k rest = go (orElse (countFault (length ps)) (listFault ps))
+listed-text zero ps k rest = go (fault ps)
   where
-    go : (o : Option Outcome) → Option·elim o (headerRow ++ answering ps k (parted lineFeed rest)) badList
-        ≡ Option·elim o (record { out = headerRow; next = asking ps k }) (λ o. ends (badList o)) .out
-        ++ remaining (Option·elim o (record { out = headerRow; next = asking ps k }) (λ o. ends (badList o)) .next) rest
+    go : (o : Option Outcome) → Option·elim o (headerRow ++ answering (tableOf ps) k (parted lineFeed rest)) badList
+        ≡ Option·elim o (record { out = headerRow; next = asking (tableOf ps) k }) (λ o. ends (badList o)) .out
+        ++ remaining (Option·elim o (record { out = headerRow; next = asking (tableOf ps) k }) (λ o. ends (badList o)) .next) rest
     go none = refl
     go (some o) = sym (append-nil (badList o))
 listed-text (suc m) ps k rest = refl
@@ -62,17 +60,17 @@ module _ (l rest : List ℕ) (plain : Plain lineFeed l) where
           ≡ Option·elim o (ends (badLine k)) (λ v. listed m (ps ++ (v ∷ [])) (suc k)) .out ++ remaining (Option·elim o (ends (badLine k)) (λ v. listed m (ps ++ (v ∷ [])) (suc k)) .next) rest
       go none = sym (append-nil (badLine k))
       go (some v) = ap (listing m (ps ++ (v ∷ [])) (suc k)) (sym are) ∙ listed-text m (ps ++ (v ∷ [])) (suc k) rest
-  line-text (asking ps k) = ap (answering ps k) both ∙ turn l (questionOf l) refl
+  line-text (asking table k) = ap (answering table k) both ∙ turn l (questionOf l) refl
     where
-      go : (o : Option Question) → Option·elim o (badLine k) (λ q. answerRow ps q ++ answering ps (suc k) (head ∷ tail))
-          ≡ Option·elim o (ends (badLine k)) (λ q. record { out = answerRow ps q; next = asking ps (suc k) }) .out
-          ++ remaining (Option·elim o (ends (badLine k)) (λ q. record { out = answerRow ps q; next = asking ps (suc k) }) .next) rest
+      go : (o : Option Question) → Option·elim o (badLine k) (λ q. answerRow table q ++ answering table (suc k) (head ∷ tail))
+          ≡ Option·elim o (ends (badLine k)) (λ q. record { out = answerRow table q; next = asking table (suc k) }) .out
+          ++ remaining (Option·elim o (ends (badLine k)) (λ q. record { out = answerRow table q; next = asking table (suc k) }) .next) rest
       go none = sym (append-nil (badLine k))
-      go (some q) = ap (λ x. answerRow ps q ++ answering ps (suc k) x) (sym are)
+      go (some q) = ap (λ x. answerRow table q ++ answering table (suc k) x) (sym are)
 
-      turn : (l : List ℕ) (o : Option Question) → questionOf l ≡ o → answering ps k (l ∷ head ∷ tail)
-          ≡ Option·elim (questionOf l) (ends (badLine k)) (λ q. record { out = answerRow ps q; next = asking ps (suc k) }) .out
-          ++ remaining (Option·elim (questionOf l) (ends (badLine k)) (λ q. record { out = answerRow ps q; next = asking ps (suc k) }) .next) rest
+      turn : (l : List ℕ) (o : Option Question) → questionOf l ≡ o → answering table k (l ∷ head ∷ tail)
+          ≡ Option·elim (questionOf l) (ends (badLine k)) (λ q. record { out = answerRow table q; next = asking table (suc k) }) .out
+          ++ remaining (Option·elim (questionOf l) (ends (badLine k)) (λ q. record { out = answerRow table q; next = asking table (suc k) }) .next) rest
       turn [] o e = go (questionOf [])
       turn (b ∷ l) o e = go (questionOf (b ∷ l))
   line-text ended = refl
@@ -82,6 +80,6 @@ pub end-text : (l : List ℕ) → Plain lineFeed l → (s : Stage) → remaining
 unfolding remaining onEnd opening listing answering
 end-text l h counting = ap opening (parted-plain lineFeed l h)
 end-text l h (parenting m ps k) = ap (listing (suc m) ps k) (parted-plain lineFeed l h)
-end-text [] h (asking ps k) = ap (answering ps k) (parted-plain lineFeed [] h)
-end-text (b ∷ l) h (asking ps k) = ap (answering ps k) (parted-plain lineFeed (b ∷ l) h)
+end-text [] h (asking table k) = ap (answering table k) (parted-plain lineFeed [] h)
+end-text (b ∷ l) h (asking table k) = ap (answering table k) (parted-plain lineFeed (b ∷ l) h)
 end-text l h ended = refl

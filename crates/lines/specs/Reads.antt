@@ -1,23 +1,27 @@
 -- How a result says what a line says. Assumes nothing.
 use mathlib.Core.Path.{_≡_}
 use mathlib.Core.List.{List, [], _∷_}
-use mathlib.Core.Bool.{Bool, true, false, _&&_}
+use mathlib.Core.Bool.{Bool, false, _&&_}
 use mathlib.Core.Option.{Option, none, some}
 use Prim.Native.Nat.{ℕ, _≤_, _<_}
 use lib.ListN.{length, getD}
 use lib.Dec.{eqb}
 use Rattle.lines.specs.Text.{comma}
 use Rattle.lines.specs.Fields.{Question}
+use Rattle.lines.specs.declared.reading.Found.{Found}
+use Rattle.lines.specs.declared.reading.Found.the-variants as found
+use Rattle.lines.specs.declared.reading.Asked.{Asked}
+use Rattle.lines.specs.declared.reading.Asked.the-variants as asked
 
--- a number that was read, or none
-abbrev pub Reads : Option ℕ → Bool → ℕ → Type 0
-Reads none ok word = ok ≡ false
-Reads (some x) ok word = (ok ≡ true) × (word ≡ x)
+-- the number that was read, or none
+abbrev pub foundOf : Found → Option ℕ
+foundOf (found.Number x) = some x
+foundOf found.Other = none
 
--- a question, or none
-abbrev pub Asks : Option Question → Bool → ℕ → ℕ → Type 0
-Asks none ok entry depth = ok ≡ false
-Asks (some q) ok entry depth = (ok ≡ true) × (entry ≡ q .entry) × (depth ≡ q .depth)
+-- the question that was read, or none
+abbrev pub askedOf : Asked → Option Question
+askedOf (asked.Question v d) = some (record { entry = v .0; depth = d })
+askedOf asked.Other = none
 
 -- whether a line's first field is one stated letter, with a field behind it
 unfoldable pub headed : ℕ → List ℕ → Bool

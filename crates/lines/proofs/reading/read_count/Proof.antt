@@ -2,6 +2,7 @@
 use mathlib.Core.Path.{sym, _∙_}
 use borrow.Author.Needs.{needs}
 use borrow.Author.Tests.{not-false}
+use Rattle.lines.specs.Reads.{foundOf}
 use Rattle.lines.proofs.Parting.{headed-long}
 use Rattle.lines.proofs.Sayings.{count-none, count-read}
 use Rattle.lines.proofs.reading.read_count.Statement.{statement}
@@ -21,7 +22,7 @@ returns-2 : tie.Need-returns-2
 returns-2 c =
     let o = c .before .before in
     let h = o .before .has-letter in
-    count-read _ (h .result) (h .ensures) (o .if1 .left) (c .read-number .result .ok) (c .read-number .result .word) (c .read-number .ensures)
+    count-read _ (h .result) (h .ensures) (o .if1 .left) (foundOf (c .read-number .result)) (c .read-number .ensures)
 
 pub read-count-spec : {M : Type 1} → statement M
 read-count-spec =

@@ -3,6 +3,7 @@ use mathlib.Core.Path.{sym, _∙_}
 use mathlib.Core.Logic.{inl, inr}
 use borrow.Author.Needs.{needs}
 use borrow.Author.Tests.{not-false}
+use Rattle.lines.specs.Reads.{foundOf}
 use Rattle.lines.proofs.Parting.{headed-long}
 use Rattle.lines.proofs.Sayings.{parent-none, parent-top, parent-read}
 use Rattle.lines.proofs.reading.read_parent.Statement.{statement}
@@ -30,7 +31,7 @@ returns-3 c =
     let h = j .before .before .has-letter in
     parent-read _ (h .result) (h .ensures) (j .before .if1 .left)
     (elim (j .if2 .came) [ inl t ↦ inr (t .2 .left) | inr t ↦ inl (t .left) ])
-    (c .read-number .result .ok) (c .read-number .result .word) (c .read-number .ensures)
+    (foundOf (c .read-number .result)) (c .read-number .ensures)
 
 pub read-parent-spec : {M : Type 1} → statement M
 read-parent-spec =
