@@ -9,20 +9,20 @@ use lib.Seq.{take-suc-set}
 use Rattle.base.specs.Lists.{some?, has}
 use Rattle.lines.specs.Text.{lineFeed}
 use Rattle.lines.specs.Counter.{badLine}
-use Rattle.lines.specs.Stages.{Stage, ended, remaining, onLine, mostBytes}
-use Rattle.lines.proofs.Stepping.{line-text}
-use Rattle.lines.proofs.Overlong.{long-text}
+use Rattle.lines.specs.Stages.{ended, remaining, onLine, mostBytes}
+use Rattle.lines.proofs.LineTexts.{line-text}
+use Rattle.lines.proofs.LongLines.{long-text}
 use Rattle.counter_stream.specs.declared.phases.Phase.{Phase}
 use Rattle.counter_stream.specs.declared.phases.Phase.the-variants.{AwaitsCount, AwaitsParent, AwaitsQuestion, AtEnd}
 use Rattle.counter_stream.specs.declared.phases.State.{State}
-use Rattle.counter_stream.specs.Fitness.{Lent, endState, isEnd, heldBytes, phaseFits, stageAt, standing, beginning, ending}
-use Rattle.counter_stream.specs.Lines.{ListRoom, Turned}
-use Rattle.counter_stream.specs.Pieces.{Room, Fits, Ready, Fed, ByteFed}
+use Rattle.counter_stream.specs.Fitness.{Lent, endState, isEnd, heldBytes, phaseFits, stageAt, stageOf, standing, beginning}
+use Rattle.counter_stream.specs.Lines.{Turned}
+use Rattle.counter_stream.specs.Pieces.{Room, StateFits, Ready, Fed, ByteFed}
 use Rattle.counter_stream.proofs.LineFeeds.{plain-of, has-more}
 use Rattle.counter_stream.proofs.Fitness.{standing-fit, end-is, cut-short, at-end, standing-end, begins}
 
 -- the end fits all buffers with room
-end-fits : (b : Lent) → Room b → Fits endState b
+end-fits : (b : Lent) → Room b → StateFits endState b
 unfolding some?
 end-fits b r = record { room = r; few = omega arith; phase = refl; unbroken = refl }
 
@@ -43,25 +43,19 @@ longer-fits AwaitsQuestion st = refl
 longer-fits AtEnd st = refl
 
 module _ (st : State) (b : Lent) (n : ℕ) (ready : Ready st n b) where
-  abbrev stage : Stage
-  stage = stageAt (st .phase) st (b .parents) (b .table)
-
-  abbrev so-far : List ℕ
-  so-far = heldBytes st b
-
   -- what was read, from one fitting state to another
-  fed-by : (read text : List ℕ) (after : State) (left : Lent) → Fits after left → after .line ≤ st .line + length read
-      → ((rest : List ℕ) → remaining stage (so-far ++ (read ++ rest)) ≡ text ++ remaining (stageAt (after .phase) after (left .parents) (left .table)) (heldBytes after left ++ rest))
+  fed-by : (read text : List ℕ) (after : State) (left : Lent) → StateFits after left → after .line ≤ st .line + length read
+      → ((rest : List ℕ) → remaining (stageOf st b) (heldBytes st b ++ (read ++ rest)) ≡ text ++ remaining (stageOf after left) (heldBytes after left ++ rest))
       → Fed st b n read text after left
   fed-by read text after left f lines same = record {
     lines = lines;
     goes-on = on;
-    ends = sym (ap (λ l. remaining (beginning st b n) (so-far ++ l)) (append-nil read)) ∙ on [] ∙ ap (λ l. text ++ l) (ap (remaining (standing after left)) (append-nil (heldBytes after left)) ∙ end-is after left f);
+    ends = sym (ap (λ l. remaining (beginning st b n) (heldBytes st b ++ l)) (append-nil read)) ∙ on [] ∙ ap (λ l. text ++ l) (ap (remaining (standing after left)) (append-nil (heldBytes after left)) ∙ end-is after left f);
   }
     where
-      on : (rest : List ℕ) → remaining (beginning st b n) (so-far ++ (read ++ rest)) ≡ text ++ remaining (standing after left) (heldBytes after left ++ rest)
+      on : (rest : List ℕ) → remaining (beginning st b n) (heldBytes st b ++ (read ++ rest)) ≡ text ++ remaining (standing after left) (heldBytes after left ++ rest)
       on rest =
-          ap (λ s. remaining s (so-far ++ (read ++ rest))) (begins st b n (ready .numbered) ∙ standing-fit st b (ready .fits))
+          ap (λ s. remaining s (heldBytes st b ++ (read ++ rest))) (begins st b n (ready .numbered) ∙ standing-fit st b (ready .fits))
           ∙ same rest
           ∙ ap (λ s. text ++ remaining s (heldBytes after left ++ rest)) (sym (standing-fit after left f))
 
@@ -70,24 +64,24 @@ module _ (st : State) (b : Lent) (n : ℕ) (ready : Ready st n b) where
 
 module _ (st : State) (b : Lent) (ready : Ready st 1 b) (byte : ℕ) (text : List ℕ) where
   -- a line's end
-  pub end-feeds : byte ≡ lineFeed → (after : State) (left : Lent) → left .line ≡ b .line → Room left
-      → Turned (onLine (stageAt (st .phase) st (b .parents) (b .table)) (take (st .held - 0) (b .line))) (st .line + 1) after (left .parents) (left .table) text
+  pub end-feeds : byte ≡ lineFeed → (after : State) (left : Lent) → Room left
+      → Turned (onLine (stageOf st b) (take (st .held - 0) (b .line))) (st .line + 1) after (left .parents) (left .table) text
       → ByteFed st b byte text after left
   unfolding some?
-  end-feeds e after left same room t =
+  end-feeds e after left room t =
       let z : st .held - 0 ≡ st .held = omega arith in
-      let s = stageAt (st .phase) st (b .parents) (b .table) in
+      let s = stageOf st b in
       let l = heldBytes st b in
       let u : Turned (onLine s l) (st .line + 1) after (left .parents) (left .table) text = rw z at t in
       let none-held : heldBytes after left ≡ [] = ap (λ k. take k (left .line)) (u .fresh) in
-      let f : Fits after left = record { room = room; few = omega (arith, u .fresh); phase = u .fits; unbroken = ap (λ l. has l lineFeed) none-held } in
+      let f : StateFits after left = record { room = room; few = omega (arith, u .fresh); phase = u .fits; unbroken = ap (λ l. has l lineFeed) none-held } in
       record {
         fed = fed-by st b 1 ready (byte ∷ []) text after left f (u .lines)
             (λ rest. ap (λ x. remaining s (l ++ (x ∷ rest))) e
             ∙ line-text l rest (plain-of l (ready .fits .unbroken)) s
             ∙ ap (λ x. x ++ remaining (onLine s l .next) rest) (sym (u .printed))
             ∙ ap (λ s. text ++ remaining s rest) (sym (u .stands))
-            ∙ ap (λ x. text ++ remaining (stageAt (after .phase) after (left .parents) (left .table)) (x ++ rest)) (sym none-held));
+            ∙ ap (λ x. text ++ remaining (stageOf after left) (x ++ rest)) (sym none-held));
         fits = f;
       }
 
@@ -99,7 +93,7 @@ module _ (st : State) (b : Lent) (ready : Ready st 1 b) (byte : ℕ) (text : Lis
       let left : Lent = record { line = set (b .line) (st .held) byte; parents = b .parents; table = b .table; space = b .space } in
       let k : st .held + 1 ≡ suc (st .held) = omega arith in
       let held : heldBytes (longer st) left ≡ heldBytes st b ++ (byte ∷ []) = ap (λ k. take k (left .line)) k ∙ take-suc-set (b .line) (st .held) byte (omega (arith, room .line)) in
-      let f : Fits (longer st) left = record {
+      let f : StateFits (longer st) left = record {
         room = record { line = omega (arith, room .line, length-set (b .line) (st .held) byte); list = room .list };
         few = omega arith;
         phase = longer-fits (st .phase) st ∙ ready .fits .phase;
@@ -118,7 +112,7 @@ module _ (st : State) (b : Lent) (ready : Ready st 1 b) (byte : ℕ) (text : Lis
   unfolding remaining
   long-feeds n h live e =
       let l = heldBytes st b ++ (byte ∷ []) in
-      let s = stageAt (st .phase) st (b .parents) (b .table) in
+      let s = stageOf st b in
       let room = ready .fits .room in
       let len : length l ≡ suc (st .held) = omega (arith, length-append (heldBytes st b) (byte ∷ []), length-take (st .held) (b .line), room .line, ready .fits .few) in
       record {

@@ -12,13 +12,13 @@ use Rattle.base.specs.Limits.{tableWords, spaceWords}
 use Rattle.base.proofs.Lists.{clash}
 use Rattle.lines.specs.Text.{lineFeed}
 use Rattle.lines.specs.Counter.{mostListed, badLine}
-use Rattle.lines.specs.Stages.{Stage, asking, ended, remaining, onEnd, mostBytes}
-use Rattle.lines.proofs.Stepping.{end-text}
+use Rattle.lines.specs.Stages.{asking, ended, remaining, onEnd, mostBytes}
+use Rattle.lines.proofs.LineTexts.{end-text}
 use Rattle.counter_stream.specs.declared.phases.Phase.{Phase}
 use Rattle.counter_stream.specs.declared.phases.Phase.the-variants.{AwaitsCount, AwaitsParent, AwaitsQuestion, AtEnd}
 use Rattle.counter_stream.specs.declared.phases.State.{State}
-use Rattle.counter_stream.specs.Fitness.{Lent, endState, isEnd, heldBytes, hasRoom, phaseFits, fits, stageAt, standing, mostLine, beginning, endingAt, ending}
-use Rattle.counter_stream.specs.Pieces.{Room, Fits, Ready}
+use Rattle.counter_stream.specs.Fitness.{Lent, endState, isEnd, heldBytes, hasRoom, phaseFits, fits, stageAt, stageOf, standing, mostLine, beginning, endingAt, ending}
+use Rattle.counter_stream.specs.Pieces.{Room, StateFits, Ready}
 use Rattle.counter_stream.proofs.LineFeeds.{plain-of}
 
 -- both tests hold
@@ -38,7 +38,7 @@ room-of b e =
     }
 
 module _ (st : State) (b : Lent) where
-  pub fits-of : fits st b ≡ true → Fits st b
+  pub fits-of : fits st b ≡ true → StateFits st b
   unfolding fits
   fits-of e =
       let r = both (hasRoom b && leb (st .held) mostBytes) _ e in
@@ -65,7 +65,7 @@ module _ (st : State) (b : Lent) where
           let z : st .held - 0 ≡ st .held = omega arith in
           rw (place, e, d, z)
 
-  module _ (f : Fits st b) where
+  module _ (f : StateFits st b) where
     has-room : hasRoom b ≡ true
     has-room = rw (
       le-leb mostBytes (length (b .line)) (f .room .line),
@@ -74,7 +74,7 @@ module _ (st : State) (b : Lent) where
       le-leb (spaceWords mostListed) (length (b .space)) (f .room .list .worked),
     )
 
-    pub standing-fit : standing st b ≡ stageAt (st .phase) st (b .parents) (b .table)
+    pub standing-fit : standing st b ≡ stageOf st b
     unfolding standing fits
     standing-fit = rw (has-room, le-leb (st .held) mostBytes (f .few), f .phase, f .unbroken)
 
@@ -83,7 +83,7 @@ module _ (st : State) (b : Lent) where
     unfolding onEnd
     end-is =
         ap (λ s. remaining s (heldBytes st b)) standing-fit
-        ∙ end-text (heldBytes st b) (plain-of (heldBytes st b) (f .unbroken)) (stageAt (st .phase) st (b .parents) (b .table))
+        ∙ end-text (heldBytes st b) (plain-of (heldBytes st b) (f .unbroken)) (stageOf st b)
         ∙ go (st .phase)
       where
         cut : (table : List ℕ) (k held : ℕ) (l : List ℕ) → held ≤ length l → onEnd (asking table k) (take held l) ≡ cond (eqb held 0) [] (badLine k)
@@ -146,7 +146,7 @@ module _ (st : State) (b : Lent) (n : ℕ) where
     unfolding beginning standing
     unfit e = rw (sym numbered, sym fit) (go x y e)
       where
-        go : (x y : Bool) → (x && y) ≡ false → cond x (cond y (stageAt (st .phase) st (b .parents) (b .table)) ended) ended ≡ ended
+        go : (x y : Bool) → (x && y) ≡ false → cond x (cond y (stageOf st b) ended) ended ≡ ended
         go true true e = clash (sym e)
         go true false e = refl
         go false y e = refl

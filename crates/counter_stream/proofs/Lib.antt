@@ -5,6 +5,6 @@ pub mod Lists
 pub mod LineEnds
 pub mod Bytes
 pub mod Theorems
-pub mod Partway
+pub mod Prefixes
 pub mod Output
-pub mod Kept
+pub mod Lengths

@@ -10,10 +10,10 @@ use borrow.Author.Tests.{lt-ltb, le-ltb, le-leb}
 use Rattle.base.specs.Limits.{tableWords}
 use Rattle.lines.specs.Fields.{countOf, parentOf, Question, questionOf}
 use Rattle.lines.specs.Counter.{mostListed, badLine, answerRow}
-use Rattle.lines.specs.Stages.{Turn, counting, parenting, asking, ends, listed, onLine}
+use Rattle.lines.specs.Stages.{counting, parenting, asking, ends, listed, onLine}
 use Rattle.counter_stream.specs.declared.phases.Phase.the-variants.{AwaitsQuestion}
 use Rattle.counter_stream.specs.declared.phases.State.{State}
-use Rattle.counter_stream.specs.Fitness.{endState, mostLine}
+use Rattle.counter_stream.specs.Fitness.{endState}
 use Rattle.counter_stream.specs.Lines.{Turned}
 
 -- a text, and the end

@@ -12,7 +12,7 @@ use borrow.Author.Tests.{eq-eqb, ne-eqb}
 use Rattle.base.specs.Lists.{some?, has}
 use Rattle.base.proofs.Lists.{clash}
 use Rattle.lines.specs.Text.{lineFeed}
-use Rattle.lines.proofs.Parting.{Plain}
+use Rattle.lines.proofs.Parts.{Plain}
 
 pub plain-of : (l : List ℕ) → has l lineFeed ≡ false → Plain lineFeed l
 unfolding some?
@@ -43,16 +43,16 @@ has-hit (a ∷ l) m = rw (has-hit l m) (go (eqb lineFeed a))
     go false = refl
 
 -- the search: none among the first i bytes
-pub record Free (bytes : List ℕ) (i : ℕ) : Type 0 where
+pub record NoLineFeed (bytes : List ℕ) (i : ℕ) : Type 0 where
   pub within : i ≤ length bytes
   pub none : has (take i bytes) lineFeed ≡ false
 
 module _ (bytes : List ℕ) where
-  pub free-none : Free bytes 0
+  pub free-none : NoLineFeed bytes 0
   unfolding some?
   free-none = record { within = omega arith; none = refl }
 
-  pub free-more : (i : ℕ) → i < length bytes → (getD bytes i 0 ≡ lineFeed → ⊥) → Free bytes i → Free bytes (i + 1)
+  pub free-more : (i : ℕ) → i < length bytes → (getD bytes i 0 ≡ lineFeed → ⊥) → NoLineFeed bytes i → NoLineFeed bytes (i + 1)
   free-more i h n f =
       let z : i + 1 ≡ suc i = omega arith in
       record { within = omega arith; none = ap (λ k. has (take k bytes) lineFeed) z ∙ ap (λ l. has l lineFeed) (take-suc bytes i 0 h) ∙ has-more (take i bytes) (getD bytes i 0) n (f .none) }
@@ -60,5 +60,5 @@ module _ (bytes : List ℕ) where
   pub free-hit : (i : ℕ) → i < length bytes → getD bytes i 0 ≡ lineFeed → true ≡ has bytes lineFeed
   free-hit i h e = sym (ap (λ l. has l lineFeed) (split-at bytes i 0 h ∙ ap (λ b. take i bytes ++ (b ∷ drop (suc i) bytes)) e) ∙ has-hit (take i bytes) (drop (suc i) bytes))
 
-  pub free-end : (i : ℕ) → length bytes ≤ i → Free bytes i → false ≡ has bytes lineFeed
+  pub free-end : (i : ℕ) → length bytes ≤ i → NoLineFeed bytes i → false ≡ has bytes lineFeed
   free-end i h f = sym (ap (λ l. has l lineFeed) (sym (take-all i bytes h)) ∙ f .none)

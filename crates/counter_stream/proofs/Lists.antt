@@ -14,7 +14,7 @@ use Rattle.table.specs.Preparing.{countFault, tableFault, spaceFault, callFault
 use Rattle.table.proofs.Answering.{refusal-none}
 use Rattle.prepare.specs.Verdict.{Says}
 use Rattle.lines.specs.Counter.{mostListed, badList, headerRow, fault}
-use Rattle.lines.specs.Stages.{asking, listed}
+use Rattle.lines.specs.Stages.{Turn, asking, listed}
 use Rattle.counter_stream.specs.declared.phases.Phase.the-variants.{AwaitsQuestion}
 use Rattle.counter_stream.specs.declared.phases.State.{State}
 use Rattle.counter_stream.specs.Fitness.{endState}
@@ -37,11 +37,12 @@ refusal-some ps t s number word says z = go (refusal ps t s) says
     go none q = absurd (z (q .0))
     go (some o) q = ap some (ap (λ x. record { number = x; word = o .word }) (sym (q .0)) ∙ ap (λ x. record { number = number; word = x }) (sym (q .1)))
 
-module _ (st : State) (parents table space : List ℕ) (due : ListDue st parents table space) (text : List ℕ) where
-  so-far : List ℕ
-  so-far = take (st .filled) parents
+-- what the list so far comes to
+abbrev turn : State → List ℕ → Turn
+turn st parents = listed (st .count - st .filled) (take (st .filled) parents) (st .line)
 
-  pub more-to-come : st .filled < st .count → text ≡ [] → Turned (listed (st .count - st .filled) (take (st .filled) parents) (st .line)) (st .line) st parents table text
+module _ (st : State) (parents table space : List ℕ) (due : ListDue st parents table space) (text : List ℕ) where
+  pub more-to-come : st .filled < st .count → text ≡ [] → Turned (turn st parents) (st .line) st parents table text
   unfolding listed
   more-to-come h e =
       let z : st .count - st .filled ≡ suc (st .count - suc (st .filled)) = omega arith in
@@ -71,7 +72,7 @@ module _ (st : State) (parents table space : List ℕ) (due : ListDue st parents
     empty = omega arith
 
     pub list-taken : number ≡ 0 → text ≡ headerRow → (laid : List ℕ) → Prepared whole laid
-        → Turned (listed (st .count - st .filled) (take (st .filled) parents) (st .line)) (st .line) (record { phase = AwaitsQuestion; line = st .line; count = st .count; filled = st .filled; held = 0 }) parents laid text
+        → Turned (turn st parents) (st .line) (record { phase = AwaitsQuestion; line = st .line; count = st .count; filled = st .filled; held = 0 }) parents laid text
     unfolding listed Option·elim
     list-taken z e laid p =
         let none-there : fault (take (st .filled) parents) ≡ none = sym judged ∙ refusal-none whole (length table) (length space) (sym (says .0) ∙ z) in
@@ -85,7 +86,7 @@ module _ (st : State) (parents table space : List ℕ) (due : ListDue st parents
         }
 
     pub list-refused : (number ≡ 0 → ⊥) → text ≡ badList (record { number = number; word = word }) → (laid : List ℕ)
-        → Turned (listed (st .count - st .filled) (take (st .filled) parents) (st .line)) (st .line) endState parents laid text
+        → Turned (turn st parents) (st .line) endState parents laid text
     unfolding listed Option·elim
     list-refused z e laid =
         let there : fault (take (st .filled) parents) ≡ some (record { number = number; word = word }) = sym judged ∙ refusal-some whole (length table) (length space) number word says z in

@@ -1,7 +1,7 @@
 -- Where the program stands, for every state and all lent buffers. Assumes nothing.
 use mathlib.Core.List.{List, []}
 use mathlib.Core.Bool.{Bool, true, false, cond, not, _&&_}
-use Prim.Native.Nat.{ℕ, suc, _-_, _≤_}
+use Prim.Native.Nat.{ℕ, suc, _-_}
 use lib.ListN.{length, take}
 use lib.Dec.{eqb, ltb, leb}
 use Rattle.base.specs.Lists.{has}
@@ -62,9 +62,12 @@ stageAt AwaitsParent st parents table = parenting (st .count - suc (st .filled))
 stageAt AwaitsQuestion st parents table = asking (take (tableWords (st .count)) table) (st .line)
 stageAt AtEnd st parents table = ended
 
+abbrev pub stageOf : State → Lent → Stage
+stageOf st b = stageAt (st .phase) st (b .parents) (b .table)
+
 -- where the program stands: at its end, where state and buffers do not fit
 unfoldable pub standing : State → Lent → Stage
-standing st b = cond (fits st b) (stageAt (st .phase) st (b .parents) (b .table)) ended
+standing st b = cond (fits st b) (stageOf st b) ended
 
 -- where it stands as n bytes are lent: at its end too, where so many lines could not all be numbered in 64 bits
 abbrev pub mostLine : ℕ

@@ -23,7 +23,7 @@ pub record Buffers (b : Lent) (out : List ℕ) : Type 0 where
   pub row : rowRoom ≤ length out
 
 -- a state that the program can come to with these buffers
-pub record Fits (st : State) (b : Lent) : Type 0 where
+pub record StateFits (st : State) (b : Lent) : Type 0 where
   pub room : Room b
   pub few : st .held ≤ mostBytes
   pub phase : phaseFits (st .phase) st ≡ true
@@ -31,7 +31,7 @@ pub record Fits (st : State) (b : Lent) : Type 0 where
 
 -- and the lines of n bytes can all be numbered
 pub record Ready (st : State) (n : ℕ) (b : Lent) : Type 0 where
-  pub fits : Fits st b
+  pub fits : StateFits st b
   pub numbered : n ≤ mostLine - st .line
 
 -- bytes of a piece of n bytes were read: their text, with what goes on or the end prints behind them, is what was to be printed
@@ -43,7 +43,7 @@ pub record Fed (st : State) (b : Lent) (n : ℕ) (read text : List ℕ) (after :
 -- a byte was read
 pub record ByteFed (st : State) (b : Lent) (byte : ℕ) (text : List ℕ) (after : State) (left : Lent) : Type 0 where
   pub fed : Fed st b 1 (byte ∷ []) text after left
-  pub fits : Fits after left
+  pub fits : StateFits after left
 
 -- what a call of `feed` reads and prints
 abbrev pub FedPiece : State → Lent → List ℕ → Progress → List ℕ → Lent → Type 0
@@ -55,3 +55,9 @@ pub record Counted (input out : ℕ) (r : Progress) : Type 0 where
   pub within : r .written ≤ out
   pub all : r .used < input → out < r .written + rowRoom
   pub some : 0 < input → rowRoom ≤ out → 0 < r .used
+
+-- calls of `feed` one behind the other, each lent n bytes of the input that is left and reading some, and `finish` behind them
+pub data Calls : State → Lent → List ℕ → List ℕ → Type 0 where
+  finishes : (st : State) (b : Lent) → Calls st b [] (ending st)
+  feeds : (st : State) (b : Lent) (n : ℕ) (xs t : List ℕ) (mid : State) (kept : Lent) → Fed st b n xs t mid kept → (ys u : List ℕ) → n ≤ length xs + length ys → Calls mid kept ys u
+      → (input text : List ℕ) → input ≡ xs ++ ys → text ≡ t ++ u → Calls st b input text

@@ -11,9 +11,9 @@ use lib.Seq.{split-at, getD-take, getD-drop, drop-drop}
 use borrow.Author.Tests.{not-true, not-false}
 use Rattle.lines.specs.Text.{comma}
 use Rattle.lines.specs.Fields.{fields, number, Question, asked, questionOf}
-use Rattle.lines.specs.Reads.{headed, NextComma}
+use Rattle.lines.specs.Results.{headed, NextComma}
 use Rattle.lines.proofs.Digits.{number-comma}
-use Rattle.lines.proofs.Parting.{Plain, Join, plain-or, parted-some, parted-plain, parted-join, headed-read}
+use Rattle.lines.proofs.Parts.{Plain, Join, plain-or, parted-some, parted-plain, parted-join, headed-read}
 use Rattle.lines.proofs.Sayings.{part, part-rest}
 
 -- the question of an entry and a depth that were read

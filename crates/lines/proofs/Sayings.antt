@@ -13,9 +13,9 @@ use borrow.Author.Tests.{not-true, not-false}
 use Rattle.tree.specs.Parents.{topMark}
 use Rattle.lines.specs.Text.{comma, dash}
 use Rattle.lines.specs.Fields.{isNumber, number, single, countOf, parentField, parentOf}
-use Rattle.lines.specs.Reads.{headed}
+use Rattle.lines.specs.Results.{headed}
 use Rattle.lines.proofs.Digits.{number-comma}
-use Rattle.lines.proofs.Parting.{single-read, headed-read}
+use Rattle.lines.proofs.Parts.{single-read, headed-read}
 
 -- a line from one place to another, as a part of its bytes
 abbrev pub part : ℕ → ℕ → List ℕ → List ℕ

@@ -3,7 +3,7 @@ ghost use mathlib.Core.Path.{_≡_};
 ghost use Prim.Native.Nat.{_≤_};
 ghost use lib.ListN.{length};
 ghost use Rattle.lines.specs.Fields.{number, countOf, parentOf, questionOf};
-ghost use Rattle.lines.specs.Reads.{foundOf, askedOf, headed, NextComma};
+ghost use Rattle.lines.specs.Results.{foundOf, askedOf, headed, NextComma};
 use base::Node;
 
 // The number that was read, or bytes of another form.

@@ -11,10 +11,5 @@ slice-aggregate-write-all c = let last = c .before .before .before .finish in om
 pub end-spec : {M : Type 1} → statement M
 end-spec =
     tie.close
-    (tie.spec
-    (λ c κs. search needs)
-    (λ c. search needs)
-    slice-aggregate-write-all
-    (λ c κs. search needs)
-    (λ c. search needs)
-    (λ c. search needs))
+    (tie.spec (λ c κs. search needs) (λ c. search needs) slice-aggregate-write-all (λ c κs. search needs)
+    (λ c. search needs) (λ c. search needs))

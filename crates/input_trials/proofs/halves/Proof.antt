@@ -1,6 +1,6 @@
 -- `halves` meets its contract. Assumes nothing.
 use borrow.Author.Needs.{needs}
-use Rattle.counter_stream.proofs.Kept.{buffers-kept}
+use Rattle.counter_stream.proofs.Lengths.{buffers-kept}
 use Rattle.input_trials.proofs.halves.Statement.{statement}
 use Rattle.input_trials.proofs.halves.Tie as tie
 
@@ -10,19 +10,7 @@ piece-requires-2 c κs = buffers-kept _ _ _ _ _ _ _ _ _ _ (c .before .before .be
 pub halves-spec : {M : Type 1} → statement M
 halves-spec =
     tie.close
-    (tie.spec
-    (λ c κs. search needs)
-    (λ c. search needs)
-    (λ c. search needs)
-    (λ c. search needs)
-    (λ c κs. search needs)
-    (λ c. search needs)
-    (λ c. search needs)
-    (λ c. search needs)
-    piece-requires-2
-    (λ c. search needs)
-    (λ c. search needs)
-    (λ c. search needs)
-    (λ c. search needs)
-    (λ c. search needs)
+    (tie.spec (λ c κs. search needs) (λ c. search needs) (λ c. search needs) (λ c. search needs)
+    (λ c κs. search needs) (λ c. search needs) (λ c. search needs) (λ c. search needs) piece-requires-2
+    (λ c. search needs) (λ c. search needs) (λ c. search needs) (λ c. search needs) (λ c. search needs)
     (λ c. search needs))

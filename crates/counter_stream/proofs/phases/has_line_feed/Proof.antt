@@ -3,12 +3,12 @@ use Prim.Native.Nat.{_-_}
 use native.Mathlib.Omega.{arith}
 use borrow.Author.Needs.{needs}
 use lib.ListN.{length}
-use Rattle.counter_stream.proofs.LineFeeds.{Free, free-none, free-more, free-hit, free-end}
+use Rattle.counter_stream.proofs.LineFeeds.{NoLineFeed, free-none, free-more, free-hit, free-end}
 use Rattle.counter_stream.proofs.phases.has_line_feed.Statement.{statement}
 use Rattle.counter_stream.proofs.phases.has_line_feed.Tie as tie
 
 abbrev Inv-loop : tie.InvT-loop
-Inv-loop bytes i₀ i = Free bytes i
+Inv-loop bytes i₀ i = NoLineFeed bytes i
 
 abbrev μ-loop : tie.MeasureT-loop
 μ-loop bytes i₀ i = length bytes - i
@@ -28,13 +28,5 @@ returns-2 c = free-end _ (c .before .loop .i) (c .loop-test .left) (c .before .l
 pub has-line-feed-spec : {M : Type 1} → statement M
 has-line-feed-spec =
     tie.close
-    (tie.spec
-    Inv-loop
-    μ-loop
-    loop-holds
-    (λ c. search needs)
-    returns
-    (λ c. search needs)
-    (λ c. search needs)
-    loop-again
-    returns-2)
+    (tie.spec Inv-loop μ-loop loop-holds (λ c. search needs) returns (λ c. search needs) (λ c. search needs)
+    loop-again returns-2)

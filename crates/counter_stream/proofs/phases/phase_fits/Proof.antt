@@ -15,12 +15,5 @@ returns-3 c = rw (c .before .enum-told3 .given .1)
 pub phase-fits-spec : {M : Type 1} → statement M
 phase-fits-spec =
     tie.close
-    (tie.spec
-    (λ c. search needs)
-    (λ c. search needs)
-    (λ c. search needs)
-    (λ c. search needs)
-    returns
-    returns-2
-    returns-3
-    (λ c. search needs))
+    (tie.spec (λ c. search needs) (λ c. search needs) (λ c. search needs) (λ c. search needs) returns
+    returns-2 returns-3 (λ c. search needs))

@@ -6,7 +6,7 @@ use borrow.Author.Needs.{needs}
 use borrow.Author.Tests.{leb-true, leb-false}
 use lib.ListN.{length}
 use Rattle.counter_stream.specs.Fitness.{lent}
-use Rattle.counter_stream.proofs.Partway.{Partway, partway-start, partway-ready, partway-more, partway-whole, partway-full}
+use Rattle.counter_stream.proofs.Prefixes.{Partway, partway-start, partway-ready, partway-more, partway-whole, partway-full}
 use Rattle.counter_stream.proofs.pieces.read_bytes.Statement.{statement}
 use Rattle.counter_stream.proofs.pieces.read_bytes.Tie as tie
 
@@ -68,26 +68,7 @@ returns-2 c =
 pub read-bytes-spec : {M : Type 1} → statement M
 read-bytes-spec =
     tie.close
-    (tie.spec
-    Inv-loop
-    μ-loop
-    loop-holds
-    sub-if1
-    (λ c. search needs)
-    (λ c. search needs)
-    byte-requires
-    put-requires
-    (λ c. search needs)
-    loop-again
-    (λ c. search needs)
-    (λ c. search needs)
-    (λ c. search needs)
-    (λ c. search needs)
-    (λ c. search needs)
-    returns
-    (λ c. search needs)
-    (λ c. search needs)
-    (λ c. search needs)
-    (λ c. search needs)
-    (λ c. search needs)
-    returns-2)
+    (tie.spec Inv-loop μ-loop loop-holds sub-if1 (λ c. search needs) (λ c. search needs) byte-requires
+    put-requires (λ c. search needs) loop-again (λ c. search needs) (λ c. search needs) (λ c. search needs)
+    (λ c. search needs) (λ c. search needs) returns (λ c. search needs) (λ c. search needs)
+    (λ c. search needs) (λ c. search needs) (λ c. search needs) returns-2)

@@ -1,10 +1,9 @@
 -- `whole_lines::count_line` meets its contract. Assumes nothing.
 use mathlib.Core.Path.{_≡_, refl, sym, ap, _∙_}
-use mathlib.Core.List.{[]}
 use Prim.Native.Nat.{_-_}
 use native.Mathlib.Omega.{arith}
 use borrow.Author.Needs.{needs}
-use Rattle.lines.specs.Reads.{foundOf}
+use Rattle.lines.specs.Results.{foundOf}
 use Rattle.counter_stream.proofs.LineEnds.{count-bad, count-large, count-fine}
 use Rattle.counter_stream.proofs.whole_lines.count_line.Statement.{statement}
 use Rattle.counter_stream.proofs.whole_lines.count_line.Tie as tie
@@ -32,17 +31,6 @@ returns-3 c =
 pub count-line-spec : {M : Type 1} → statement M
 count-line-spec =
     tie.close
-    (tie.spec
-    (λ c κs. search needs)
-    (λ c. search needs)
-    (λ c. search needs)
-    (λ c κs. search needs)
-    (λ c κs. search needs)
-    returns
-    (λ c κs. search needs)
-    (λ c κs. search needs)
-    returns-2
-    list-so-far-requires
-    (λ c. search needs)
-    (λ c. search needs)
-    returns-3)
+    (tie.spec (λ c κs. search needs) (λ c. search needs) (λ c. search needs) (λ c κs. search needs)
+    (λ c κs. search needs) returns (λ c κs. search needs) (λ c κs. search needs) returns-2
+    list-so-far-requires (λ c. search needs) (λ c. search needs) returns-3)

@@ -3,7 +3,7 @@ use mathlib.Core.Path.{refl, sym, ap, _∙_}
 use native.Mathlib.Omega.{arith}
 use borrow.Author.Needs.{needs}
 use lib.ListN.{length-set}
-use Rattle.lines.specs.Reads.{foundOf}
+use Rattle.lines.specs.Results.{foundOf}
 use Rattle.counter_stream.proofs.LineEnds.{parent-bad, parent-fine}
 use Rattle.counter_stream.proofs.whole_lines.parent_line.Statement.{statement}
 use Rattle.counter_stream.proofs.whole_lines.parent_line.Tie as tie
@@ -34,20 +34,7 @@ returns-2 c =
 pub parent-line-spec : {M : Type 1} → statement M
 parent-line-spec =
     tie.close
-    (tie.spec
-    (λ c κs. search needs)
-    (λ c. search needs)
-    (λ c. search needs)
-    (λ c κs. search needs)
-    (λ c κs. search needs)
-    returns
-    (λ c. search needs)
-    (λ c. search needs)
-    (λ c. search needs)
-    (λ c. search needs)
-    (λ c. search needs)
-    list-so-far-requires
-    (λ c. search needs)
-    (λ c. search needs)
-    (λ c. search needs)
-    returns-2)
+    (tie.spec (λ c κs. search needs) (λ c. search needs) (λ c. search needs) (λ c κs. search needs)
+    (λ c κs. search needs) returns (λ c. search needs) (λ c. search needs) (λ c. search needs)
+    (λ c. search needs) (λ c. search needs) list-so-far-requires (λ c. search needs) (λ c. search needs)
+    (λ c. search needs) returns-2)

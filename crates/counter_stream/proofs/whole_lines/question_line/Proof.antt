@@ -7,7 +7,7 @@ use lib.ListN.{length, take}
 use Rattle.base.specs.Limits.{tableWords}
 use Rattle.answers.specs.Answers.{answerTo}
 use Rattle.answers.specs.Steps.{level}
-use Rattle.lines.specs.Reads.{askedOf}
+use Rattle.lines.specs.Results.{askedOf}
 use Rattle.lines.specs.Counter.{replyRow, answerRow}
 use Rattle.counter_stream.proofs.LineEnds.{question-bad, question-fine}
 use Rattle.counter_stream.proofs.whole_lines.question_line.Statement.{statement}
@@ -35,22 +35,7 @@ returns-2 c parents =
 pub question-line-spec : {M : Type 1} → statement M
 question-line-spec =
     tie.close
-    (tie.spec
-    (λ c κs. search needs)
-    (λ c. search needs)
-    (λ c. search needs)
-    (λ c κs. search needs)
-    (λ c κs. search needs)
-    returns
-    (λ c. search needs)
-    (λ c. search needs)
-    (λ c. search needs)
-    (λ c. search needs)
-    (λ c. search needs)
-    (λ c. search needs)
-    (λ c. search needs)
-    (λ c. search needs)
-    (λ c κs. search needs)
-    (λ c κs. search needs)
-    (λ c. search needs)
-    returns-2)
+    (tie.spec (λ c κs. search needs) (λ c. search needs) (λ c. search needs) (λ c κs. search needs)
+    (λ c κs. search needs) returns (λ c. search needs) (λ c. search needs) (λ c. search needs)
+    (λ c. search needs) (λ c. search needs) (λ c. search needs) (λ c. search needs) (λ c. search needs)
+    (λ c κs. search needs) (λ c κs. search needs) (λ c. search needs) returns-2)

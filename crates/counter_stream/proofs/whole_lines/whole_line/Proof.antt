@@ -1,5 +1,5 @@
 -- `whole_lines::whole_line` meets its contract. Assumes nothing.
-use mathlib.Core.Path.{_≡_, ap}
+use mathlib.Core.Path.{_≡_}
 use mathlib.Core.List.{[]}
 use Prim.Native.Nat.{_+_}
 use native.Mathlib.Omega.{arith}
@@ -44,24 +44,8 @@ returns-4 c = rw (c .before .before .enum-told4 .given .1, c .ends .ensures) (en
 pub whole-line-spec : {M : Type 1} → statement M
 whole-line-spec =
     tie.close
-    (tie.spec
-    (λ c. search needs)
-    count-line-requires
-    (λ c. search needs)
-    parent-line-requires
-    (λ c. search needs)
-    question-line-requires
-    (λ c. search needs)
-    (λ c κs. search needs)
-    (λ c κs. search needs)
-    (λ c. search needs)
-    (λ c. search needs)
-    (λ c. search needs)
-    returns
-    (λ c. search needs)
-    (λ c. search needs)
-    (λ c. search needs)
-    returns-2
-    (λ c. search needs)
-    returns-3
+    (tie.spec (λ c. search needs) count-line-requires (λ c. search needs) parent-line-requires
+    (λ c. search needs) question-line-requires (λ c. search needs) (λ c κs. search needs)
+    (λ c κs. search needs) (λ c. search needs) (λ c. search needs) (λ c. search needs) returns
+    (λ c. search needs) (λ c. search needs) (λ c. search needs) returns-2 (λ c. search needs) returns-3
     returns-4)

@@ -1,7 +1,7 @@
 -- `reading::has_letter` meets its contract. Assumes nothing.
 use native.Mathlib.Omega.{arith}
 use borrow.Author.Needs.{needs}
-use Rattle.lines.proofs.Parting.{headed-short, headed-comma, headed-other}
+use Rattle.lines.proofs.Parts.{headed-short, headed-comma, headed-other}
 use Rattle.lines.proofs.reading.has_letter.Statement.{statement}
 use Rattle.lines.proofs.reading.has_letter.Tie as tie
 

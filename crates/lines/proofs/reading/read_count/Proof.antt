@@ -2,8 +2,8 @@
 use mathlib.Core.Path.{sym, _∙_}
 use borrow.Author.Needs.{needs}
 use borrow.Author.Tests.{not-false}
-use Rattle.lines.specs.Reads.{foundOf}
-use Rattle.lines.proofs.Parting.{headed-long}
+use Rattle.lines.specs.Results.{foundOf}
+use Rattle.lines.proofs.Parts.{headed-long}
 use Rattle.lines.proofs.Sayings.{count-none, count-read}
 use Rattle.lines.proofs.reading.read_count.Statement.{statement}
 use Rattle.lines.proofs.reading.read_count.Tie as tie

@@ -3,8 +3,8 @@ use mathlib.Core.Path.{sym, _∙_}
 use mathlib.Core.Logic.{inl, inr}
 use borrow.Author.Needs.{needs}
 use borrow.Author.Tests.{not-false}
-use Rattle.lines.specs.Reads.{foundOf}
-use Rattle.lines.proofs.Parting.{headed-long}
+use Rattle.lines.specs.Results.{foundOf}
+use Rattle.lines.proofs.Parts.{headed-long}
 use Rattle.lines.proofs.Sayings.{parent-none, parent-top, parent-read}
 use Rattle.lines.proofs.reading.read_parent.Statement.{statement}
 use Rattle.lines.proofs.reading.read_parent.Tie as tie

@@ -3,8 +3,8 @@ use mathlib.Core.Path.{sym, ap, _∙_}
 use native.Mathlib.Omega.{arith}
 use borrow.Author.Needs.{needs}
 use borrow.Author.Tests.{not-false}
-use Rattle.lines.specs.Reads.{foundOf}
-use Rattle.lines.proofs.Parting.{headed-long}
+use Rattle.lines.specs.Results.{foundOf}
+use Rattle.lines.proofs.Parts.{headed-long}
 use Rattle.lines.proofs.Questions.{question-none, question-short, question-first, question-second, question-read}
 use Rattle.lines.proofs.reading.read_question.Statement.{statement}
 use Rattle.lines.proofs.reading.read_question.Tie as tie

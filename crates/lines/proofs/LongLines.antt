@@ -10,11 +10,11 @@ use native.Mathlib.Decide.{decLt}
 use lib.ListN.{length, drop, length-drop, length-append}
 use Rattle.lines.specs.Text.{comma, lineFeed}
 use Rattle.lines.specs.Fields.{parted, fields, number, countOf, parentField, parentOf, asked, questionOf}
-use Rattle.lines.specs.Reads.{headed}
+use Rattle.lines.specs.Results.{headed}
 use Rattle.lines.specs.Counter.{badLine, answering, listing, opening}
 use Rattle.lines.specs.Stages.{Stage, counting, parenting, asking, ended, remaining, onEnd, mostBytes}
 use Rattle.lines.proofs.Digits.{read-long}
-use Rattle.lines.proofs.Parting.{Plain, Join, plain-or, parted-some, parted-onto}
+use Rattle.lines.proofs.Parts.{Plain, Join, plain-or, parted-some, parted-onto}
 use Rattle.lines.proofs.Sayings.{count-is, parent-is}
 use Rattle.lines.proofs.Questions.{both, both-none, asked-plain, asked-join, question-is}
 

@@ -1,13 +1,13 @@
 -- Within a piece: the first bytes were read, and what they print was written. Assumes nothing.
-use mathlib.Core.Path.{_≡_, refl, sym, ap, _∙_}
+use mathlib.Core.Path.{_≡_, refl, ap, _∙_}
 use mathlib.Core.List.{List, [], _∷_, _++_}
 use Prim.Native.Nat.{ℕ, zero, suc, _+_, _-_, _≤_, _<_}
 use native.Mathlib.Omega.{arith}
 use lib.ListN.{length, take, getD, length-take}
 use lib.Seq.{take-suc}
 use Rattle.counter_stream.specs.declared.phases.State.{State}
-use Rattle.counter_stream.specs.Fitness.{Lent, mostLine, rowRoom}
-use Rattle.counter_stream.specs.Pieces.{Fits, Ready, Fed, ByteFed, Counted}
+use Rattle.counter_stream.specs.Fitness.{Lent, rowRoom}
+use Rattle.counter_stream.specs.Pieces.{StateFits, Ready, Fed, ByteFed, Counted}
 use Rattle.counter_stream.proofs.Bytes.{fed-none}
 use Rattle.counter_stream.proofs.Theorems.{fed-join}
 
@@ -15,7 +15,7 @@ pub record Partway (st : State) (b : Lent) (input out : List ℕ) (at : State) (
   pub there : used ≤ length input
   pub within : written ≤ length out
   pub nothing : used ≡ 0 → written ≡ 0
-  pub fits : Fits at left
+  pub fits : StateFits at left
   pub fed : Fed st b (length input) (take used input) (take written out) at left
 
 module _ (st : State) (b : Lent) (input : List ℕ) (ready : Ready st (length input) b) where

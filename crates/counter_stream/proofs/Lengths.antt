@@ -4,7 +4,7 @@ use mathlib.Core.List.{List}
 use Prim.Native.Nat.{ℕ}
 use native.Mathlib.Omega.{arith}
 use lib.ListN.{length}
-use Rattle.counter_stream.specs.Fitness.{Lent, lent}
+use Rattle.counter_stream.specs.Fitness.{lent}
 use Rattle.counter_stream.specs.Pieces.{Buffers}
 
 pub buffers-kept : (line parents table space out line₁ parents₁ table₁ space₁ out₁ : List ℕ) → Buffers (lent line parents table space) out

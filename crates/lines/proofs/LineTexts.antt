@@ -10,8 +10,8 @@ use Rattle.table.specs.Table.{tableOf}
 use Rattle.lines.specs.Text.{lineFeed}
 use Rattle.lines.specs.Fields.{parted, countOf, parentOf, Question, questionOf}
 use Rattle.lines.specs.Counter.{mostListed, badLine, badList, headerRow, answerRow, answering, fault, judged, listing, opening}
-use Rattle.lines.proofs.Parting.{Plain, parted-some, parted-plain, parted-join}
-use Rattle.lines.specs.Stages.{Stage, counting, parenting, asking, ended, remaining, Turn, ends, listed, onLine, onEnd}
+use Rattle.lines.proofs.Parts.{Plain, parted-some, parted-plain, parted-join}
+use Rattle.lines.specs.Stages.{Stage, counting, parenting, asking, ended, remaining, ends, listed, onLine, onEnd}
 
 -- the list so far, once its last line is read
 listed-text : (m : ℕ) (ps : List ℕ) (k : ℕ) (rest : List ℕ) → listing m ps k (parted lineFeed rest) ≡ listed m ps k .out ++ remaining (listed m ps k .next) rest

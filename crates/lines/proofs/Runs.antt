@@ -1,11 +1,9 @@
 -- Runs of the counter program, by computation. Assumes nothing.
 use mathlib.Core.Path.{_≡_, refl}
-use mathlib.Core.List.{List, [], _∷_, _++_, flatten, flatMap, map}
-use mathlib.Core.Option.{Option, none, some, Option·elim, bind, orElse}
-use Prim.Native.Nat.{ℕ}
-use lib.ListN.{length}
+use mathlib.Core.List.{[], _∷_, flatten, flatMap}
+use mathlib.Core.Option.{Option·elim, bind, orElse}
 use Rattle.base.specs.Lists.{each, keep, first, index, every, some?, places, padded}
-use Rattle.tree.specs.Parents.{topMark, entry, parent, climbWithin, depth}
+use Rattle.tree.specs.Parents.{entry, parent, climbWithin, depth}
 use Rattle.tree.specs.Parents.{up as climbUp}
 use Rattle.tree.specs.Forest.{plant, grow, preorder, forestSize, forestHeight, tallest, spine, pathTop}
 use Rattle.tree.specs.Faults.{isStray, meetsTop, listFault}

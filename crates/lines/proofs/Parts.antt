@@ -13,7 +13,7 @@ use borrow.Author.Tests.{eq-eqb, ne-eqb}
 use Rattle.base.proofs.Lists.{clash, All}
 use Rattle.lines.specs.Text.{comma}
 use Rattle.lines.specs.Fields.{parted, fields, tagged, single}
-use Rattle.lines.specs.Reads.{headed}
+use Rattle.lines.specs.Results.{headed}
 
 module _ (sep : ℕ) where
   -- a byte more before a parted list
