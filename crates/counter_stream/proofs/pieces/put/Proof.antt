@@ -45,16 +45,6 @@ returns c =
 pub put-spec : {M : Type 1} → statement M
 put-spec =
     tie.close
-    (tie.spec
-    Inv-loop
-    μ-loop
-    loop-holds
-    (λ c. search needs)
-    (λ c. search needs)
-    slice-write-out
-    (λ c. search needs)
-    (λ c. omega (arith, ltb-true (c .before .before .loop .i) 64 (c .if1 .taken)))
-    loop-again
-    (λ c. search needs)
-    (λ c. search needs)
-    returns)
+    (tie.spec Inv-loop μ-loop loop-holds (λ c. search needs) (λ c. search needs) slice-write-out
+    (λ c. search needs) (λ c. omega (arith, ltb-true (c .before .before .loop .i) 64 (c .if1 .taken)))
+    loop-again (λ c. search needs) (λ c. search needs) returns)

@@ -27,11 +27,5 @@ returns-2 c =
 pub read-count-spec : {M : Type 1} → statement M
 read-count-spec =
     tie.close
-    (tie.spec
-    (λ c κs. search needs)
-    returns
-    sub-read-number
-    sub-read-number
-    (λ c. search needs)
-    (λ c κs. search needs)
-    returns-2)
+    (tie.spec (λ c κs. search needs) returns sub-read-number sub-read-number (λ c. search needs)
+    (λ c κs. search needs) returns-2)

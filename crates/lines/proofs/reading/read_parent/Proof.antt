@@ -36,13 +36,5 @@ returns-3 c =
 pub read-parent-spec : {M : Type 1} → statement M
 read-parent-spec =
     tie.close
-    (tie.spec
-    (λ c κs. search needs)
-    returns
-    (λ c. search needs)
-    returns-2
-    sub-read-number
-    sub-read-number
-    (λ c. search needs)
-    (λ c κs. search needs)
-    returns-3)
+    (tie.spec (λ c κs. search needs) returns (λ c. search needs) returns-2 sub-read-number sub-read-number
+    (λ c. search needs) (λ c κs. search needs) returns-3)
