@@ -9,3 +9,4 @@ pub mod Rows
 pub mod Views
 pub mod Puts
 pub mod Filled
+pub mod Measures

@@ -1,25 +1,28 @@
 // The counter program: a list and questions from standard input, the class of each on standard output.
-ghost use Prim.Native.Nat.{_≤_};
-ghost use lib.ListN.{length};
-use desk::Desk;
-use desk::feed;
-use desk::finish;
-use desk::start;
+ghost use Rattle.counter_stream.specs.Fitness.{lent};
+ghost use Rattle.counter_stream.specs.Pieces.{Buffers};
+use counter_stream::State;
+use counter_stream::feed;
+use counter_stream::finish;
+use counter_stream::is_at_end;
+use counter_stream::start;
 use libc::STDERR_FILENO;
 use libc::STDIN_FILENO;
 use libc::STDOUT_FILENO;
+use lines::room::LINE_ROOM;
+use lines::room::LIST_ROOM;
+use lines::room::SPACE_ROOM;
+use lines::room::TABLE_ROOM;
 
-// Where the program stands after a piece of the input, and whether all that it printed was written.
+// The state behind a piece of the input, and whether all that it printed was written.
 struct Went {
-    desk: Desk,
-    held: usize,
+    state: State,
     ok: bool,
 }
 
 // Reads a piece and writes what it prints.
 fn piece(
-    desk: Desk,
-    held: usize,
+    state: State,
     input: &[u8],
     line: &mut [u8],
     out: &mut [u8],
@@ -27,35 +30,31 @@ fn piece(
     table: &mut [u32],
     space: &mut [u32],
 ) -> Went
-    requires { ⌜ 64 ≤ length (now out) ⌝ }
+    requires { ⌜ Buffers (lent (now line) (now parents) (now table) (now space)) (now out) ⌝ }
 {
-    let mut at = desk;
-    let mut bytes = held;
+    let mut at = state;
     let mut from: usize = 0;
     while from < input.len() {
-        let fed = feed(at, bytes, &input[from..], line, out, parents, table, space);
-        at = fed.desk;
-        bytes = fed.held;
+        let fed = feed(at, &input[from..], line, out, parents, table, space);
+        at = fed.state;
         from += fed.used;
         let written = fed.written;
         if !io::write_all(STDOUT_FILENO, &out[..written]) {
             return Went {
-                desk: at,
-                held: bytes,
+                state: at,
                 ok: false,
             };
         }
     }
     Went {
-        desk: at,
-        held: bytes,
+        state: at,
         ok: true,
     }
 }
 
 // Writes what the end of the input prints.
-fn end(desk: Desk, held: usize, out: &mut [u8]) -> bool {
-    let n = finish(desk, held, out);
+fn end(state: State, out: &mut [u8]) -> bool {
+    let n = finish(state, out);
     io::write_all(STDOUT_FILENO, &out[..n])
 }
 
@@ -69,10 +68,9 @@ fn report(is_written: bool) {
     }
 }
 
-// Reads once, and answers where the program then stands, and whether to go on.
+// Reads once, and answers the state behind what was read, and whether to go on.
 fn turn(
-    desk: Desk,
-    held: usize,
+    state: State,
     input: &mut [u8],
     line: &mut [u8],
     out: &mut [u8],
@@ -80,24 +78,20 @@ fn turn(
     table: &mut [u32],
     space: &mut [u32],
 ) -> Went
-    requires { ⌜ 64 ≤ length (now out) ⌝ }
+    requires { ⌜ Buffers (lent (now line) (now parents) (now table) (now space)) (now out) ⌝ }
 {
-    let stop = Went {
-        desk,
-        held,
-        ok: false,
-    };
+    let stop = Went { state, ok: false };
     let got = libc::read(STDIN_FILENO, input);
     if got < 0 {
         io::write_all(STDERR_FILENO, b"counter: standard input cannot be read\n");
         return stop;
     }
     if got == 0 {
-        report(end(desk, held, out));
+        report(end(state, out));
         return stop;
     }
     let n = io::count(got, input);
-    let went = piece(desk, held, &input[..n], line, out, parents, table, space);
+    let went = piece(state, &input[..n], line, out, parents, table, space);
     report(went.ok);
     went
 }
@@ -111,16 +105,14 @@ fn run(
     table: &mut [u32],
     space: &mut [u32],
 )
-    requires { ⌜ 64 ≤ length (now out) ⌝ }
+    requires { ⌜ Buffers (lent (now line) (now parents) (now table) (now space)) (now out) ⌝ }
 {
-    let mut desk = start();
-    let mut held: usize = 0;
+    let mut state = start();
     let mut turns = u64::MAX;
     while turns > 0 {
-        let went = turn(desk, held, input, line, out, parents, table, space);
-        desk = went.desk;
-        held = went.held;
-        if !went.ok || desk.stage == 3 {
+        let went = turn(state, input, line, out, parents, table, space);
+        state = went.state;
+        if !went.ok || is_at_end(state) {
             return;
         }
         turns -= 1;
@@ -128,10 +120,10 @@ fn run(
 }
 
 fn main() {
-    let mut parents = [0u32; 512];
-    let mut table = [0u32; 7421];
-    let mut space = [0u32; 3072];
-    let mut line = [0u8; 23];
+    let mut parents = [0u32; LIST_ROOM];
+    let mut table = [0u32; TABLE_ROOM];
+    let mut space = [0u32; SPACE_ROOM];
+    let mut line = [0u8; LINE_ROOM];
     let mut input = [0u8; 65536];
     let mut out = [0u8; 65536];
     run(

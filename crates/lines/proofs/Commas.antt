@@ -6,7 +6,7 @@ use native.Mathlib.Omega.{arith}
 use native.Mathlib.Decide.{ℕ-discrete}
 use lib.ListN.{length, getD}
 use Rattle.lines.specs.Text.{comma}
-use Rattle.lines.specs.Reads.{NextComma}
+use Rattle.lines.specs.Results.{NextComma}
 
 -- no comma stands from a place on before i
 pub record Free (line : List ℕ) (from i : ℕ) : Type 0 where

@@ -11,7 +11,6 @@ use lib.Dec.{leb, ltb}
 use borrow.Author.Tests.{le-leb, lt-leb, ltb-false}
 use Rattle.base.specs.Lists.{every}
 use Rattle.lines.specs.Fields.{isDigit, mostNumber, value, isNumber, number}
-use Rattle.lines.specs.Reads.{Reads}
 
 -- one digit more
 pub value-more : (acc : ℕ) (l : List ℕ) (b : ℕ) → value acc (l ++ (b ∷ [])) ≡ 10 * value acc l + (b - 48)
@@ -89,16 +88,16 @@ module _ (field : List ℕ) where
   unfolding tens
   valued-fits i v h few p = omega (arith, p .small, tens-most i 9 (omega (arith, ltb-false 10 (length field) few)))
 
-  unread : isNumber field ≡ false → Reads (number field) false 0
+  unread : isNumber field ≡ false → none ≡ number field
   unfolding number
   unread e = rw e
 
   -- a field of no byte, or of too many; one with another byte than a digit
-  pub read-empty : length field ≡ 0 → Reads (number field) false 0
+  pub read-empty : length field ≡ 0 → none ≡ number field
   unfolding isNumber
   read-empty e = unread (rw e)
 
-  pub read-long : 10 < length field → Reads (number field) false 0
+  pub read-long : 10 < length field → none ≡ number field
   unfolding isNumber
   read-long h = unread (rw (le-leb 1 (length field) (omega arith), lt-leb (length field) 10 h))
 
@@ -111,24 +110,24 @@ module _ (field : List ℕ) where
       go true false = refl
       go false b = refl
 
-  pub read-other : (i : ℕ) → i < length field → isDigit (getD field i 0) ≡ false → Reads (number field) false 0
+  pub read-other : (i : ℕ) → i < length field → isDigit (getD field i 0) ≡ false → none ≡ number field
   read-other i h t = unread (undigit (ap (every isDigit) (split-at field i 0 h) ∙ every-fails isDigit (take i field) (getD field i 0) (drop (suc i) field) t))
 
   module _ (i v : ℕ) (any : 1 ≤ length field) (few : length field ≤ 10) (past : length field ≤ i) (p : Valued field i v) where
     whole : take i field ≡ field
     whole = take-all i field past
 
-    pub read-great : mostNumber < v → Reads (number field) false 0
+    pub read-great : mostNumber < v → none ≡ number field
     unfolding isNumber
     read-great h =
         let k : mostNumber < value 0 field = omega (arith, p .is, ap (value 0) whole) in
         unread (rw (le-leb 1 (length field) any, le-leb (length field) 10 few, sym (ap (every isDigit) whole) ∙ p .all, lt-leb (value 0 field) mostNumber k))
 
-    pub read-whole : v ≤ mostNumber → Reads (number field) true v
+    pub read-whole : v ≤ mostNumber → some v ≡ number field
     unfolding isNumber number
     read-whole h =
         let e : v ≡ value 0 field = p .is ∙ ap (value 0) whole in
-        rw (le-leb 1 (length field) any, le-leb (length field) 10 few, sym (ap (every isDigit) whole) ∙ p .all, le-leb (value 0 field) mostNumber (omega (arith, e))) (refl, e)
+        rw (le-leb 1 (length field) any, le-leb (length field) 10 few, sym (ap (every isDigit) whole) ∙ p .all, le-leb (value 0 field) mostNumber (omega (arith, e))) (ap some e)
 
 -- a field with a comma in it is no number
 pub number-comma : (f g : List ℕ) → number (f ++ (44 ∷ g)) ≡ none

@@ -9,22 +9,12 @@ use native.Mathlib.Omega.{arith}
 use lib.ListN.{length, getD, drop, length-take, length-drop}
 use lib.Seq.{split-at, getD-take, getD-drop, drop-drop}
 use borrow.Author.Tests.{not-true, not-false}
-use Rattle.base.proofs.Lists.{clash}
 use Rattle.lines.specs.Text.{comma}
 use Rattle.lines.specs.Fields.{fields, number, Question, asked, questionOf}
-use Rattle.lines.specs.Reads.{Reads, Asks, headed, NextComma}
+use Rattle.lines.specs.Results.{headed, NextComma}
 use Rattle.lines.proofs.Digits.{number-comma}
-use Rattle.lines.proofs.Parting.{Plain, Join, plain-or, parted-some, parted-plain, parted-join, headed-read}
+use Rattle.lines.proofs.Parts.{Plain, Join, plain-or, parted-some, parted-plain, parted-join, headed-read}
 use Rattle.lines.proofs.Sayings.{part, part-rest}
-
--- what is read of a number that is one, or none
-pub reads-none : (o : Option ℕ) (ok : Bool) (w : ℕ) → not ok ≡ true → Reads o ok w → o ≡ none
-reads-none none ok w t r = refl
-reads-none (some x) ok w t r = clash (sym (not-true ok t) ∙ r .0)
-
-pub reads-some : (o : Option ℕ) (ok : Bool) (w : ℕ) → not ok ≡ false → Reads o ok w → o ≡ some w
-reads-some none ok w t r = clash (sym r ∙ not-false ok t)
-reads-some (some x) ok w t r = ap some (sym (r .1))
 
 -- the question of an entry and a depth that were read
 abbrev pub both : Option ℕ → Option ℕ → Option Question
@@ -79,17 +69,16 @@ module _ (line : List ℕ) (c : ℕ) (next : NextComma line 2 c) where
       ∙ ap (λ g. part 2 c line ++ (comma ∷ g)) (drop-drop (suc (c - 2)) 2 line ∙ ap (λ k. drop k line) y ∙ sym (part-rest (c + 1) line))
 
 module _ (line : List ℕ) (r : Bool) (is : r ≡ headed 81 line) where
-  pub question-none : not r ≡ true → Asks (questionOf line) false 0 0
+  pub question-none : not r ≡ true → none ≡ questionOf line
   question-none t = rw (question-is line, sym is ∙ not-true r t)
 
   module _ (t : not r ≡ false) (c : ℕ) (next : NextComma line 2 c) where
     asked-is : questionOf line ≡ asked (fields (drop 2 line))
     asked-is = rw (question-is line, sym is ∙ not-false r t)
 
-    pub question-short : length line ≤ c → Asks (questionOf line) false 0 0
+    pub question-short : length line ≤ c → none ≡ questionOf line
     question-short h =
-        let e : questionOf line ≡ none = asked-is ∙ ap (λ l. asked (fields l)) (front-whole line c next h) ∙ asked-plain (part 2 c line) (front-plain line c next) in
-        rw e
+        sym (asked-is ∙ ap (λ l. asked (fields l)) (front-whole line c next h) ∙ asked-plain (part 2 c line) (front-plain line c next))
 
     abbrev first : Option ℕ
     first = number (part 2 c line)
@@ -97,15 +86,18 @@ module _ (line : List ℕ) (r : Bool) (is : r ≡ headed 81 line) where
     abbrev second : Option ℕ
     second = number (part (c + 1) (length line) line)
 
-    module _ (h : c < length line) (ok₁ : Bool) (w₁ : ℕ) (e₁ : Reads first ok₁ w₁) (ok₂ : Bool) (w₂ : ℕ) (e₂ : Reads second ok₂ w₂) where
+    module _ (h : c < length line) where
       two : questionOf line ≡ both first second
       two = asked-is ∙ ap (λ l. asked (fields l)) (cut line c next h) ∙ asked-join (part 2 c line) (part (c + 1) (length line) line) (front-plain line c next)
 
-      pub question-other : (not ok₁ ≡ true) ⊎ (not ok₂ ≡ true) → Asks (questionOf line) false 0 0
+      pub question-first : none ≡ first → none ≡ questionOf line
       unfolding bind
-      question-other (inl n) = rw (two, reads-none first ok₁ w₁ n e₁)
-      question-other (inr n) = rw (two, reads-none second ok₂ w₂ n e₂, both-none first)
+      question-first n = rw (two, sym n)
 
-      pub question-read : not ok₁ ≡ false → not ok₂ ≡ false → Asks (questionOf line) true w₁ w₂
+      pub question-second : none ≡ second → none ≡ questionOf line
       unfolding bind
-      question-read m n = rw (two, reads-some first ok₁ w₁ m e₁, reads-some second ok₂ w₂ n e₂) (refl, refl, refl)
+      question-second n = rw (two, sym n, both-none first)
+
+      pub question-read : (v d : ℕ) → some v ≡ first → some d ≡ second → some (record { entry = v; depth = d }) ≡ questionOf line
+      unfolding bind
+      question-read v d m n = rw (two, sym m, sym n)

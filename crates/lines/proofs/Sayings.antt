@@ -3,7 +3,7 @@ use mathlib.Core.Path.{_≡_, refl, sym, ap, _∙_}
 use mathlib.Core.Logic.{_⊎_, inl, inr}
 use mathlib.Core.List.{List, [], _∷_, _++_}
 use mathlib.Core.Bool.{Bool, true, false, not, cond}
-use mathlib.Core.Option.{none, some, bind}
+use mathlib.Core.Option.{Option, none, some, bind}
 use Prim.Native.Nat.{ℕ, _-_}
 use native.Mathlib.Omega.{arith}
 use lib.ListN.{length, getD, take, drop, length-drop}
@@ -13,9 +13,9 @@ use borrow.Author.Tests.{not-true, not-false}
 use Rattle.tree.specs.Parents.{topMark}
 use Rattle.lines.specs.Text.{comma, dash}
 use Rattle.lines.specs.Fields.{isNumber, number, single, countOf, parentField, parentOf}
-use Rattle.lines.specs.Reads.{Reads, headed}
+use Rattle.lines.specs.Results.{headed}
 use Rattle.lines.proofs.Digits.{number-comma}
-use Rattle.lines.proofs.Parting.{single-read, headed-read}
+use Rattle.lines.proofs.Parts.{single-read, headed-read}
 
 -- a line from one place to another, as a part of its bytes
 abbrev pub part : ℕ → ℕ → List ℕ → List ℕ
@@ -32,13 +32,11 @@ count-is line =
     ∙ ap (λ o. cond (headed 78 line) o none) (single-read number number-comma (drop 2 line))
 
 module _ (line : List ℕ) (r : Bool) (is : r ≡ headed 78 line) where
-  pub count-none : not r ≡ true → Reads (countOf line) false 0
+  pub count-none : not r ≡ true → none ≡ countOf line
   count-none t = rw (count-is line, sym is ∙ not-true r t)
 
-  pub count-read : not r ≡ false → (ok : Bool) (w : ℕ) → Reads (number (part 2 (length line) line)) ok w → Reads (countOf line) ok w
-  count-read t ok w h =
-      let e : countOf line ≡ number (part 2 (length line) line) = rw (count-is line, sym is ∙ not-false r t, part-rest 2 line) in
-      rw e h
+  pub count-read : not r ≡ false → (o : Option ℕ) → o ≡ number (part 2 (length line) line) → o ≡ countOf line
+  count-read t o h = rw (h, count-is line, sym is ∙ not-false r t, part-rest 2 line)
 
 -- `P,parent`
 parent-comma : (f g : List ℕ) → parentField (f ++ (comma ∷ g)) ≡ none
@@ -76,13 +74,11 @@ parent-plain (a ∷ b ∷ c ∷ []) (inr q) = rw q
 parent-plain (a ∷ b ∷ c ∷ d ∷ l) n = refl
 
 module _ (line : List ℕ) (r : Bool) (is : r ≡ headed 80 line) where
-  pub parent-none : not r ≡ true → Reads (parentOf line) false 0
+  pub parent-none : not r ≡ true → none ≡ parentOf line
   parent-none t = rw (parent-is line, sym is ∙ not-true r t)
 
-  pub parent-top : not r ≡ false → length line ≡ 3 → eqb (getD line 2 0) dash ≡ true → Reads (parentOf line) true topMark
-  parent-top t e q = rw (parent-is line, sym is ∙ not-false r t, parent-dash line e q) (refl, refl)
+  pub parent-top : not r ≡ false → length line ≡ 3 → eqb (getD line 2 0) dash ≡ true → some topMark ≡ parentOf line
+  parent-top t e q = rw (parent-is line, sym is ∙ not-false r t, parent-dash line e q)
 
-  pub parent-read : not r ≡ false → NoDash line → (ok : Bool) (w : ℕ) → Reads (number (part 2 (length line) line)) ok w → Reads (parentOf line) ok w
-  parent-read t n ok w h =
-      let e : parentOf line ≡ number (part 2 (length line) line) = rw (parent-is line, sym is ∙ not-false r t, part-rest 2 line) (parent-plain line n) in
-      rw e h
+  pub parent-read : not r ≡ false → NoDash line → (o : Option ℕ) → o ≡ number (part 2 (length line) line) → o ≡ parentOf line
+  parent-read t n o h = rw (h, parent-is line, sym is ∙ not-false r t, part-rest 2 line) (sym (parent-plain line n))

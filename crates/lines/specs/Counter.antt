@@ -34,23 +34,27 @@ headerRow = row ((101 ∷ 110 ∷ 116 ∷ 114 ∷ 121 ∷ []) ∷ (100 ∷ 101 �
 unfoldable pub replyRow : ℕ → ℕ → ℕ → ℕ → ℕ → List ℕ
 replyRow v d number word cells = row (decimal v ∷ decimal d ∷ decimal number ∷ cond (eqb number 0) (decimal word) (dash ∷ []) ∷ decimal cells ∷ [])
 
--- the answer of the level lookup on the list's table
+-- the answer of the level lookup on a table
 unfoldable pub answerRow : List ℕ → Question → List ℕ
-answerRow ps q =
-    let r = answerTo (tableOf ps) (level (length (tableOf ps)) (q .entry) (q .depth)) in
+answerRow table q =
+    let r = answerTo table (level (length table) (q .entry) (q .depth)) in
     replyRow (q .entry) (q .depth) (r .number) (r .word) (r .cells .count)
 
 -- The input is given by its lines: what stands before each line feed, and last what stands behind the last one. k is the next line's number.
--- "then `Q,entry,depth` lines"
+-- "then `Q,entry,depth` lines", on a table
 unfoldable pub answering : List ℕ → ℕ → List (List ℕ) → List ℕ
-answering ps k [] = []
-answering ps k ([] ∷ []) = []
-answering ps k ((b ∷ l) ∷ []) = badLine k
-answering ps k (l ∷ m ∷ ls) = Option·elim (questionOf l) (badLine k) (λ q. answerRow ps q ++ answering ps (suc k) (m ∷ ls))
+answering table k [] = []
+answering table k ([] ∷ []) = []
+answering table k ((b ∷ l) ∷ []) = badLine k
+answering table k (l ∷ m ∷ ls) = Option·elim (questionOf l) (badLine k) (λ q. answerRow table q ++ answering table (suc k) (m ∷ ls))
+
+-- what turns a list away, in working memory that is long enough
+abbrev pub fault : List ℕ → Option Outcome
+fault ps = orElse (countFault (length ps)) (listFault ps)
 
 -- "The header follows an accepted list. A refused list prints `list,` number `,` name, and ends."
 unfoldable pub judged : List ℕ → ℕ → List (List ℕ) → List ℕ
-judged ps k ls = Option·elim (orElse (countFault (length ps)) (listFault ps)) (headerRow ++ answering ps k ls) badList
+judged ps k ls = Option·elim (fault ps) (headerRow ++ answering (tableOf ps) k ls) badList
 
 -- "a line `P,parent` for each entry": m lines more, behind the parents ps
 unfoldable pub listing : ℕ → List ℕ → ℕ → List (List ℕ) → List ℕ

@@ -1,7 +1,7 @@
 -- The lines of the counter program: what they say, and what is printed.
 pub mod Text
 pub mod Fields
-pub mod Reads
+pub mod Results
 pub mod Texts
 pub mod Counter
 pub mod Stages

@@ -3,46 +3,42 @@ ghost use mathlib.Core.Path.{_≡_};
 ghost use Prim.Native.Nat.{_≤_};
 ghost use lib.ListN.{length};
 ghost use Rattle.lines.specs.Fields.{number, countOf, parentOf, questionOf};
-ghost use Rattle.lines.specs.Reads.{Reads, Asks, headed, NextComma};
+ghost use Rattle.lines.specs.Results.{foundOf, askedOf, headed, NextComma};
 use base::Node;
 
-// A number that was read, if `ok`.
-pub struct Found {
-    pub ok: bool,
-    pub word: u32,
+// The number that was read, or bytes of another form.
+pub enum Found {
+    Number(u32),
+    Other,
 }
 
-// A question that was read, if `ok`.
-pub struct Asked {
-    pub ok: bool,
-    pub entry: Node,
-    pub depth: u32,
+// The question that was read, or a line of another form.
+pub enum Asked {
+    Question { entry: Node, depth: u32 },
+    Other,
 }
 
 // A field of one to ten digits, at most 4,294,967,295.
 pub fn read_number(field: &[u8]) -> Found
-    ensures { λ r. ⌜ Reads (number (now (field .entry))) (r .ok) (r .word) ⌝ }
+    ensures { λ r. ⌜ foundOf r ≡ number (now (field .entry)) ⌝ }
 {
     if field.len() == 0 || 10 < field.len() {
-        return Found { ok: false, word: 0 };
+        return Found::Other;
     }
     let mut value: u64 = 0;
     let mut i: usize = 0;
     while i < field.len() {
         let b = field[i];
         if b < 48 || 57 < b {
-            return Found { ok: false, word: 0 };
+            return Found::Other;
         }
         value = 10 * value + (b - 48) as u64;
         i += 1;
     }
     if 4294967295 < value {
-        return Found { ok: false, word: 0 };
+        return Found::Other;
     }
-    Found {
-        ok: true,
-        word: value as u32,
-    }
+    Found::Number(value as u32)
 }
 
 // Whether a line has a stated letter for its first field, and a field behind it.
@@ -57,26 +53,23 @@ fn has_letter(line: &[u8], letter: u8) -> bool
 
 // `N,count`.
 pub fn read_count(line: &[u8]) -> Found
-    ensures { λ r. ⌜ Reads (countOf (now (line .entry))) (r .ok) (r .word) ⌝ }
+    ensures { λ r. ⌜ foundOf r ≡ countOf (now (line .entry)) ⌝ }
 {
     if !has_letter(line, 78) {
-        return Found { ok: false, word: 0 };
+        return Found::Other;
     }
     read_number(&line[2..])
 }
 
 // `P,parent`, or `P,-` for the top.
 pub fn read_parent(line: &[u8]) -> Found
-    ensures { λ r. ⌜ Reads (parentOf (now (line .entry))) (r .ok) (r .word) ⌝ }
+    ensures { λ r. ⌜ foundOf r ≡ parentOf (now (line .entry)) ⌝ }
 {
     if !has_letter(line, 80) {
-        return Found { ok: false, word: 0 };
+        return Found::Other;
     }
     if line.len() == 3 && line[2] == 45 {
-        return Found {
-            ok: true,
-            word: 4294967295,
-        };
+        return Found::Number(4294967295);
     }
     read_number(&line[2..])
 }
@@ -98,28 +91,23 @@ fn comma_from(line: &[u8], from: usize) -> usize
 
 // `Q,entry,depth`.
 pub fn read_question(line: &[u8]) -> Asked
-    ensures { λ r. ⌜ Asks (questionOf (now (line .entry))) (r .ok) (r .entry .0) (r .depth) ⌝ }
+    ensures { λ r. ⌜ askedOf r ≡ questionOf (now (line .entry)) ⌝ }
 {
-    let none = Asked {
-        ok: false,
-        entry: Node(0),
-        depth: 0,
-    };
     if !has_letter(line, 81) {
-        return none;
+        return Asked::Other;
     }
     let c = comma_from(line, 2);
     if line.len() <= c {
-        return none;
+        return Asked::Other;
     }
-    let entry = read_number(&line[2..c]);
-    let depth = read_number(&line[c + 1..]);
-    if !entry.ok || !depth.ok {
-        return none;
-    }
-    Asked {
-        ok: true,
-        entry: Node(entry.word),
-        depth: depth.word,
+    let Found::Number(entry) = read_number(&line[2..c]) else {
+        return Asked::Other;
+    };
+    let Found::Number(depth) = read_number(&line[c + 1..]) else {
+        return Asked::Other;
+    };
+    Asked::Question {
+        entry: Node(entry),
+        depth,
     }
 }

@@ -8,11 +8,12 @@ ghost use lib.ListN.{length};
 ghost use Rattle.lines.specs.Text.{comma, dash, decimal};
 ghost use Rattle.lines.specs.Texts.{said};
 ghost use Rattle.lines.specs.Counter.{badLine, badList, headerRow, replyRow};
+use crate::room::ROW_ROOM;
 use base::Node;
 
 // A text: its first `count` bytes.
 pub struct Text {
-    pub bytes: [u8; 64],
+    pub bytes: [u8; ROW_ROOM],
     pub count: usize,
 }
 
@@ -21,7 +22,7 @@ pub fn nothing() -> Text
     ensures { λ r. ⌜ (r .count ≡ 0) × (said (r .bytes) (r .count) ≡ []) ⌝ }
 {
     Text {
-        bytes: [0; 64],
+        bytes: [0; ROW_ROOM],
         count: 0,
     }
 }

@@ -16,13 +16,8 @@ abbrev μ-loop : tie.MeasureT-loop
 pub comma-from-spec : {M : Type 1} → statement M
 comma-from-spec =
     tie.close
-    (tie.spec
-    Inv-loop
-    μ-loop
-    (λ c. free-none _ _ (c .pre))
-    (λ c. search needs)
+    (tie.spec Inv-loop μ-loop (λ c. free-none _ _ (c .pre)) (λ c. search needs)
     (λ c. let b = c .before .before .before in free-hit _ _ (b .loop .i) (omega arith) (c .if1 .taken) (b .loop .inv))
-    (λ c. search needs)
-    (λ c. search needs)
+    (λ c. search needs) (λ c. search needs)
     (λ c. let b = c .before .before .before in free-more _ _ (b .loop .i) (omega arith) (c .if1 .left) (b .loop .inv))
     (λ c. free-end _ _ (c .before .loop .i) (c .loop-test .left) (c .before .loop .inv)))

@@ -61,19 +61,5 @@ returns-4 c =
 pub read-number-spec : {M : Type 1} → statement M
 read-number-spec =
     tie.close
-    (tie.spec
-    Inv-loop
-    μ-loop
-    returns
-    (λ c. valued-none _)
-    (λ c. search needs)
-    returns-2
-    mul-value
-    cast-value
-    add-value
-    (λ c. search needs)
-    (λ c. search needs)
-    loop-again
-    returns-3
-    (λ c. search needs)
-    returns-4)
+    (tie.spec Inv-loop μ-loop returns (λ c. valued-none _) (λ c. search needs) returns-2 mul-value cast-value
+    add-value (λ c. search needs) (λ c. search needs) loop-again returns-3 (λ c. search needs) returns-4)

@@ -3,7 +3,8 @@ use mathlib.Core.Path.{sym, _∙_}
 use mathlib.Core.Logic.{inl, inr}
 use borrow.Author.Needs.{needs}
 use borrow.Author.Tests.{not-false}
-use Rattle.lines.proofs.Parting.{headed-long}
+use Rattle.lines.specs.Results.{foundOf}
+use Rattle.lines.proofs.Parts.{headed-long}
 use Rattle.lines.proofs.Sayings.{parent-none, parent-top, parent-read}
 use Rattle.lines.proofs.reading.read_parent.Statement.{statement}
 use Rattle.lines.proofs.reading.read_parent.Tie as tie
@@ -30,18 +31,10 @@ returns-3 c =
     let h = j .before .before .has-letter in
     parent-read _ (h .result) (h .ensures) (j .before .if1 .left)
     (elim (j .if2 .came) [ inl t ↦ inr (t .2 .left) | inr t ↦ inl (t .left) ])
-    (c .read-number .result .ok) (c .read-number .result .word) (c .read-number .ensures)
+    (foundOf (c .read-number .result)) (c .read-number .ensures)
 
 pub read-parent-spec : {M : Type 1} → statement M
 read-parent-spec =
     tie.close
-    (tie.spec
-    (λ c κs. search needs)
-    returns
-    (λ c. search needs)
-    returns-2
-    sub-read-number
-    sub-read-number
-    (λ c. search needs)
-    (λ c κs. search needs)
-    returns-3)
+    (tie.spec (λ c κs. search needs) returns (λ c. search needs) returns-2 sub-read-number sub-read-number
+    (λ c. search needs) (λ c κs. search needs) returns-3)

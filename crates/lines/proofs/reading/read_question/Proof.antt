@@ -1,11 +1,11 @@
 -- `reading::read_question` meets its contract. Assumes nothing.
-use mathlib.Core.Path.{sym, _∙_}
-use mathlib.Core.Logic.{inl, inr}
+use mathlib.Core.Path.{sym, ap, _∙_}
 use native.Mathlib.Omega.{arith}
 use borrow.Author.Needs.{needs}
 use borrow.Author.Tests.{not-false}
-use Rattle.lines.proofs.Parting.{headed-long}
-use Rattle.lines.proofs.Questions.{question-none, question-short, question-other, question-read}
+use Rattle.lines.specs.Results.{foundOf}
+use Rattle.lines.proofs.Parts.{headed-long}
+use Rattle.lines.proofs.Questions.{question-none, question-short, question-first, question-second, question-read}
 use Rattle.lines.proofs.reading.read_question.Statement.{statement}
 use Rattle.lines.proofs.reading.read_question.Tie as tie
 
@@ -27,45 +27,40 @@ returns-2 c =
 
 returns-3 : tie.Need-returns-3
 returns-3 c =
-    let b = c .before .before in
-    let a = b .before .before in
+    let a = c .before .before in
     let o = a .before .before in
     let k = o .before in
     let h = k .before .before .has-letter in
-    question-other _ (h .result) (h .ensures) (k .before .if1 .left) (k .comma-from .result) (k .comma-from .ensures) (omega arith)
-    (a .read-number .result .ok) (a .read-number .result .word) (a .read-number .ensures)
-    (b .read-number2 .result .ok) (b .read-number2 .result .word) (b .read-number2 .ensures)
-    (elim (c .if3 .came) [ inl t ↦ inl (t .taken) | inr t ↦ inr (t .2 .taken) ])
+    question-first _ (h .result) (h .ensures) (k .before .if1 .left) (k .comma-from .result) (k .comma-from .ensures) (omega arith)
+    (ap foundOf (sym (c .enum-told .given .1)) ∙ a .read-number .ensures)
 
 returns-4 : tie.Need-returns-4
 returns-4 c =
-    let e = c .before .before in
-    let b = e .before .before in
-    let a = b .before .before in
+    let b = c .before .before in
+    let a = b .before .before .before .before .before in
     let o = a .before .before in
     let k = o .before in
     let h = k .before .before .has-letter in
-    question-read _ (h .result) (h .ensures) (k .before .if1 .left) (k .comma-from .result) (k .comma-from .ensures) (omega arith)
-    (a .read-number .result .ok) (a .read-number .result .word) (a .read-number .ensures)
-    (b .read-number2 .result .ok) (b .read-number2 .result .word) (b .read-number2 .ensures)
-    (e .if3 .left) (c .if4 .left)
+    question-second _ (h .result) (h .ensures) (k .before .if1 .left) (k .comma-from .result) (k .comma-from .ensures) (omega arith)
+    (ap foundOf (sym (c .enum-told2 .given .1)) ∙ b .read-number2 .ensures)
+
+returns-5 : tie.Need-returns-5
+returns-5 c =
+    let d = c .before in
+    let b = d .before .before in
+    let e = b .before .before .before in
+    let a = e .before .before in
+    let o = a .before .before in
+    let k = o .before in
+    let h = k .before .before .has-letter in
+    question-read _ (h .result) (h .ensures) (k .before .if1 .left) (k .comma-from .result) (k .comma-from .ensures) (omega arith) _ _
+    (ap foundOf (sym (e .entry .given .1)) ∙ a .read-number .ensures)
+    (ap foundOf (sym (d .depth .given .1)) ∙ b .read-number2 .ensures)
 
 pub read-question-spec : {M : Type 1} → statement M
 read-question-spec =
     tie.close
-    (tie.spec
-    (λ c κs. search needs)
-    returns
-    comma-from-requires
-    returns-2
-    (λ c. search needs)
-    (λ c. search needs)
-    (λ c. search needs)
-    (λ c κs. search needs)
-    (λ c. search needs)
-    (λ c. search needs)
-    (λ c. search needs)
-    (λ c. search needs)
-    (λ c κs. search needs)
-    returns-3
-    returns-4)
+    (tie.spec (λ c κs. search needs) returns comma-from-requires returns-2 (λ c. search needs)
+    (λ c. search needs) (λ c. search needs) (λ c κs. search needs) (λ c. search needs) (λ c. search needs)
+    returns-3 (λ c. search needs) (λ c. search needs) (λ c. search needs) (λ c. search needs)
+    (λ c κs. search needs) (λ c. search needs) (λ c. search needs) returns-4 returns-5)

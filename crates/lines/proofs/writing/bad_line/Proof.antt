@@ -27,10 +27,5 @@ returns c =
 pub bad-line-spec : {M : Type 1} → statement M
 bad-line-spec =
     tie.close
-    (tie.spec
-    (λ c κs. search needs)
-    (λ c. search needs)
-    (λ c κs. search needs)
-    with-number-requires
-    with-byte-requires
-    returns)
+    (tie.spec (λ c κs. search needs) (λ c. search needs) (λ c κs. search needs) with-number-requires
+    with-byte-requires returns)
