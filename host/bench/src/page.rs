@@ -132,10 +132,12 @@ Machine: {}.
 {}
 ## Questions, ns: proved / by hand = ratio
 
+{}
 {}",
         machine(),
         summary(rows),
         prepare_table(rows),
-        question_table(rows)
+        question_table(rows),
+        include_str!("choices.md")
     )
 }
