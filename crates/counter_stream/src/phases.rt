@@ -82,7 +82,7 @@ fn has_line_feed(bytes: &[u8]) -> bool
 {
     let mut i: usize = 0;
     while i < bytes.len() {
-        if bytes[i] == 10 {
+        if bytes[i] == b'\n' {
             return true;
         }
         i += 1;

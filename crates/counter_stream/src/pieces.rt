@@ -59,7 +59,7 @@ fn byte(
         return ends(nothing());
     }
     let held = state.held;
-    if b == 10 {
+    if b == b'\n' {
         return whole_line(state, &line[0..held], parents, table, space);
     }
     if LINE_ROOM <= held {

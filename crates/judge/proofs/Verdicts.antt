@@ -17,7 +17,7 @@ use Rattle.tree.proofs.Forests.{full-meets}
 use Rattle.table.specs.Preparing.{countFault, spaceFault, lendFault, judging, judgedSpace}
 use Rattle.judge.specs.Regions.{after, firstOf}
 use Rattle.judge.specs.Verdict.{verdict}
-use Rattle.judge.proofs.Chains.{sibs, sibs-in, sibs-out, sibs-from}
+use Rattle.judge.proofs.link.Chains.{sibs, sibs-in, sibs-out, sibs-from}
 
 -- a result says an outcome that the list gives
 pub says : (v o : Outcome) → v ≡ o → Says v (o .number) (o .word)

@@ -5,6 +5,10 @@ ghost use lib.ListN.{length};
 ghost use Rattle.lines.specs.Fields.{number, countOf, parentOf, questionOf};
 ghost use Rattle.lines.specs.Results.{foundOf, askedOf, headed, NextComma};
 use base::Node;
+use base::limits::TOP_MARK;
+
+// The largest number that a field can state.
+const MOST_NUMBER: u64 = 4294967295;
 
 // The number that was read, or bytes of another form.
 pub enum Found {
@@ -29,13 +33,13 @@ pub fn read_number(field: &[u8]) -> Found
     let mut i: usize = 0;
     while i < field.len() {
         let b = field[i];
-        if b < 48 || 57 < b {
+        if b < b'0' || b'9' < b {
             return Found::Other;
         }
-        value = 10 * value + (b - 48) as u64;
+        value = 10 * value + (b - b'0') as u64;
         i += 1;
     }
-    if 4294967295 < value {
+    if MOST_NUMBER < value {
         return Found::Other;
     }
     Found::Number(value as u32)
@@ -48,14 +52,14 @@ fn has_letter(line: &[u8], letter: u8) -> bool
     if line.len() < 2 {
         return false;
     }
-    line[0] == letter && line[1] == 44
+    line[0] == letter && line[1] == b','
 }
 
 // `N,count`.
 pub fn read_count(line: &[u8]) -> Found
     ensures { λ r. ⌜ foundOf r ≡ countOf (now (line .entry)) ⌝ }
 {
-    if !has_letter(line, 78) {
+    if !has_letter(line, b'N') {
         return Found::Other;
     }
     read_number(&line[2..])
@@ -65,11 +69,11 @@ pub fn read_count(line: &[u8]) -> Found
 pub fn read_parent(line: &[u8]) -> Found
     ensures { λ r. ⌜ foundOf r ≡ parentOf (now (line .entry)) ⌝ }
 {
-    if !has_letter(line, 80) {
+    if !has_letter(line, b'P') {
         return Found::Other;
     }
-    if line.len() == 3 && line[2] == 45 {
-        return Found::Number(4294967295);
+    if line.len() == 3 && line[2] == b'-' {
+        return Found::Number(TOP_MARK);
     }
     read_number(&line[2..])
 }
@@ -81,7 +85,7 @@ fn comma_from(line: &[u8], from: usize) -> usize
 {
     let mut i = from;
     while i < line.len() {
-        if line[i] == 44 {
+        if line[i] == b',' {
             return i;
         }
         i += 1;
@@ -93,7 +97,7 @@ fn comma_from(line: &[u8], from: usize) -> usize
 pub fn read_question(line: &[u8]) -> Asked
     ensures { λ r. ⌜ askedOf r ≡ questionOf (now (line .entry)) ⌝ }
 {
-    if !has_letter(line, 81) {
+    if !has_letter(line, b'Q') {
         return Asked::Other;
     }
     let c = comma_from(line, 2);

@@ -8,7 +8,7 @@ use borrow.Rule.Slice.PartMut.{same-len-mid}
 use lib.ListN.{length, length-set}
 use Rattle.tree.specs.Parents.{topMark, word}
 use Rattle.judge.specs.Regions.{Linked, heads, nexts}
-use Rattle.judge.proofs.Chains.{from-end, link-below-in, link-top-in}
+use Rattle.judge.proofs.link.Chains.{from-end, link-below-in, link-top-in}
 use Rattle.base.proofs.Filled.{filled-part}
 use Rattle.judge.proofs.link.link.Statement.{statement}
 use Rattle.judge.proofs.link.link.Tie as tie

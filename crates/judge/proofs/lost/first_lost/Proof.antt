@@ -7,7 +7,7 @@ use borrow.Author.Needs.{needs}
 use lib.ListN.{length, take, drop}
 use Rattle.base.specs.Lists.{view}
 use Rattle.judge.specs.Regions.{Marked}
-use Rattle.judge.proofs.Marking.{lost-is}
+use Rattle.judge.proofs.lost.Marks.{lost-is}
 use Rattle.base.proofs.Views.{view-length}
 use Rattle.judge.proofs.lost.first_lost.Statement.{statement}
 use Rattle.judge.proofs.lost.first_lost.Tie as tie

@@ -8,7 +8,7 @@ use borrow.Rule.Slice.PartMut.{same-len-mid, postOf}
 use lib.ListN.{length, getD, length-set}
 use Rattle.base.specs.Lists.{view}
 use Rattle.tree.specs.Forest.{order}
-use Rattle.judge.proofs.Marking.{Marking, mark-none, mark-end, word-low, order-kept, mark-in}
+use Rattle.judge.proofs.lost.Marks.{MarkedTo, mark-none, mark-end, word-low, order-kept, mark-in}
 use Rattle.base.proofs.Views.{view-other}
 use Rattle.base.proofs.Filled.{filled-part}
 use Rattle.tree.proofs.Forests.{order-short}
@@ -17,7 +17,7 @@ use Rattle.judge.proofs.lost.mark.Tie as tie
 
 abbrev Inv-loop : tie.InvT-loop
 Inv-loop parents count space₀ n a b at₀ space at =
-    (a ≡ 5 * length parents) × (at .0 ≤ count) × (6 * length parents ≤ length space) × (view 0 count space ≡ order parents) × Marking parents (at .0) (view (5 * length parents) (length parents) space) × (length space ≡ length space₀)
+    (a ≡ 5 * length parents) × (at .0 ≤ count) × (6 * length parents ≤ length space) × (view 0 count space ≡ order parents) × MarkedTo parents (at .0) (view (5 * length parents) (length parents) space) × (length space ≡ length space₀)
 
 abbrev μ-loop : tie.MeasureT-loop
 μ-loop parents count space₀ n a b at₀ space at = count - at .0

@@ -7,7 +7,7 @@ use borrow.Author.Needs.{needs}
 use lib.ListN.{length, length-set}
 use Rattle.base.specs.Lists.{view}
 use Rattle.judge.specs.Regions.{Linked, heads, nexts}
-use Rattle.judge.proofs.Pending.{Walked, walk-start, walk-skip, walk-end, room-in, linked-in, emit-in}
+use Rattle.judge.proofs.walk.Stack.{Walked, walk-start, walk-skip, walk-end, room-in, linked-in, emit-in}
 use Rattle.base.proofs.Views.{view-none, view-length, view-pop}
 use Rattle.judge.proofs.walk.walk.Statement.{statement}
 use Rattle.judge.proofs.walk.walk.Tie as tie

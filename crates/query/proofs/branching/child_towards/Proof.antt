@@ -4,7 +4,7 @@ use borrow.Author.Needs.{needs}
 use borrow.Author.Tests.{not-true, not-false}
 use Rattle.answers.specs.Answers.{answerFrom}
 use Rattle.answers.specs.Steps.{branch}
-use Rattle.query.proofs.Relating.{relation-refused, relation-apart, relation-above}
+use Rattle.query.proofs.relate.Relations.{relation-refused, relation-apart, relation-above}
 use Rattle.query.proofs.branching.child_towards.Statement.{statement}
 use Rattle.query.proofs.branching.child_towards.Tie as tie
 

@@ -10,9 +10,9 @@ use Rattle.answers.specs.declared.Answer.{Answer}
 use Rattle.answers.proofs.Bounds.{level-within}
 use Rattle.answers.proofs.Answering.{few}
 use Rattle.answers.proofs.AnswerWords.{words-same}
-use Rattle.query.proofs.Behind.{answer-held}
-use Rattle.query.proofs.Relating.{inner-goes}
-use Rattle.query.proofs.Walking.{steps, le-no}
+use Rattle.query.proofs.joining.Joins.{answer-held}
+use Rattle.query.proofs.relate.Relations.{inner-goes}
+use Rattle.query.proofs.Programs.{steps, le-no}
 use Rattle.query.proofs.branching.deeper.Statement.{statement}
 use Rattle.query.proofs.branching.deeper.Tie as tie
 

@@ -4,7 +4,7 @@ use lib.Dec.{lit<}
 use borrow.Author.Needs.{needs}
 use borrow.Author.Tests.{eqb-true, eqb-false}
 use Rattle.answers.specs.Steps.{afterParent}
-use Rattle.query.proofs.Walking.{steps, got-held}
+use Rattle.query.proofs.Programs.{steps, got-held}
 use Rattle.query.proofs.group.after_parent.Statement.{statement}
 use Rattle.query.proofs.group.after_parent.Tie as tie
 

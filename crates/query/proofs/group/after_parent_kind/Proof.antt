@@ -2,8 +2,8 @@
 use lib.Dec.{lit≤}
 use borrow.Author.Needs.{needs}
 use Rattle.answers.specs.Steps.{afterParentKind}
-use Rattle.query.proofs.Behind.{jump-held, jump-four, jump-goes}
-use Rattle.query.proofs.Walking.{steps, le-no}
+use Rattle.query.proofs.joining.Joins.{jump-held, jump-four, jump-goes}
+use Rattle.query.proofs.Programs.{steps, le-no}
 use Rattle.query.proofs.group.after_parent_kind.Statement.{statement}
 use Rattle.query.proofs.group.after_parent_kind.Tie as tie
 

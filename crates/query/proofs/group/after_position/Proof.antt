@@ -2,7 +2,7 @@
 use native.Mathlib.Omega.{arith}
 use borrow.Author.Needs.{needs}
 use Rattle.answers.specs.Steps.{afterPosition}
-use Rattle.query.proofs.Walking.{steps, le-yes}
+use Rattle.query.proofs.Programs.{steps, le-yes}
 use Rattle.query.proofs.group.after_position.Statement.{statement}
 use Rattle.query.proofs.group.after_position.Tie as tie
 

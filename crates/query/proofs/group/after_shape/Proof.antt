@@ -5,8 +5,8 @@ use borrow.Author.Needs.{needs}
 use Rattle.base.specs.Limits.{groupLimit}
 use Rattle.shapes.proofs.Heights.{reached-past}
 use Rattle.answers.specs.Steps.{afterShape}
-use Rattle.query.proofs.Rows.{outside, inside, there}
-use Rattle.query.proofs.Walking.{steps}
+use Rattle.query.proofs.group.Rows.{outside, inside, there}
+use Rattle.query.proofs.Programs.{steps}
 use Rattle.query.proofs.group.after_shape.Statement.{statement}
 use Rattle.query.proofs.group.after_shape.Tie as tie
 

@@ -5,8 +5,8 @@ use borrow.Author.Needs.{needs}
 use Rattle.base.specs.Limits.{groupLimit}
 use Rattle.shapes.specs.Climbs.{localDepth}
 use Rattle.answers.specs.Steps.{inGroup}
-use Rattle.query.proofs.Rows.{cell-at, past-depth, up-to-depth, parent-depth}
-use Rattle.query.proofs.Walking.{steps, got-held}
+use Rattle.query.proofs.group.Rows.{cell-at, past-depth, up-to-depth, parent-depth}
+use Rattle.query.proofs.Programs.{steps, got-held}
 use Rattle.query.proofs.group.in_group.Statement.{statement}
 use Rattle.query.proofs.group.in_group.Tie as tie
 

@@ -1,6 +1,6 @@
 -- `joining::with_four` meets its contract. Assumes nothing.
 use borrow.Author.Needs.{needs}
-use Rattle.query.proofs.Behind.{four-behind}
+use Rattle.query.proofs.joining.Joins.{four-behind}
 use Rattle.query.proofs.joining.with_four.Statement.{statement}
 use Rattle.query.proofs.joining.with_four.Tie as tie
 

@@ -2,7 +2,7 @@
 use mathlib.Core.Path.{refl}
 use borrow.Author.Needs.{needs}
 use Rattle.base.specs.Lists.{each}
-use Rattle.query.proofs.Behind.{rest-behind}
+use Rattle.query.proofs.joining.Joins.{rest-behind}
 use Rattle.query.proofs.joining.with_ten.Statement.{statement}
 use Rattle.query.proofs.joining.with_ten.Tie as tie
 

@@ -1,7 +1,7 @@
 -- `jump::after_ancestor` meets its contract. Assumes nothing.
 use borrow.Author.Needs.{needs}
 use Rattle.answers.specs.Steps.{afterAncestor}
-use Rattle.query.proofs.Walking.{steps}
+use Rattle.query.proofs.Programs.{steps}
 use Rattle.query.proofs.jump.after_ancestor.Statement.{statement}
 use Rattle.query.proofs.jump.after_ancestor.Tie as tie
 

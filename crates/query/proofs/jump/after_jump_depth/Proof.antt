@@ -4,7 +4,7 @@ use borrow.Author.Needs.{needs}
 use lib.Dec.{lit≤}
 use Rattle.answers.specs.Steps.{afterJumpDepth}
 use Rattle.answers.proofs.Exponent.{exponent-low, exponent-zero}
-use Rattle.query.proofs.Walking.{steps}
+use Rattle.query.proofs.Programs.{steps}
 use Rattle.query.proofs.jump.after_jump_depth.Statement.{statement}
 use Rattle.query.proofs.jump.after_jump_depth.Tie as tie
 

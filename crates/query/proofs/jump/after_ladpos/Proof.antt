@@ -1,7 +1,7 @@
 -- `jump::after_ladpos` meets its contract. Assumes nothing.
 use borrow.Author.Needs.{needs}
 use Rattle.answers.specs.Steps.{afterLadpos}
-use Rattle.query.proofs.Walking.{steps}
+use Rattle.query.proofs.Programs.{steps}
 use Rattle.query.proofs.jump.after_ladpos.Statement.{statement}
 use Rattle.query.proofs.jump.after_ladpos.Tie as tie
 

@@ -4,7 +4,7 @@ use native.Mathlib.Omega.{arith}
 use borrow.Author.Needs.{needs}
 use Rattle.base.specs.Limits.{jumpRoom}
 use Rattle.answers.specs.Steps.{fromJump}
-use Rattle.query.proofs.Walking.{steps}
+use Rattle.query.proofs.Programs.{steps}
 use Rattle.query.proofs.jump.from_jump.Statement.{statement}
 use Rattle.query.proofs.jump.from_jump.Tie as tie
 

@@ -1,7 +1,7 @@
 -- `look::after_depth` meets its contract. Assumes nothing.
 use borrow.Author.Needs.{needs}
 use Rattle.answers.specs.Steps.{afterDepth}
-use Rattle.query.proofs.Walking.{steps}
+use Rattle.query.proofs.Programs.{steps}
 use Rattle.query.proofs.look.after_depth.Statement.{statement}
 use Rattle.query.proofs.look.after_depth.Tie as tie
 

@@ -2,7 +2,7 @@
 use lib.Dec.{lit<}
 use borrow.Author.Needs.{needs}
 use Rattle.answers.specs.Steps.{ancestorAt}
-use Rattle.query.proofs.Walking.{steps, got-held}
+use Rattle.query.proofs.Programs.{steps, got-held}
 use Rattle.query.proofs.look.ancestor_at.Statement.{statement}
 use Rattle.query.proofs.look.ancestor_at.Tie as tie
 

@@ -2,7 +2,7 @@
 use lib.Dec.{lit<}
 use borrow.Author.Needs.{needs}
 use Rattle.answers.specs.Steps.{fromEntry}
-use Rattle.query.proofs.Walking.{steps, got-held}
+use Rattle.query.proofs.Programs.{steps, got-held}
 use Rattle.query.proofs.look.from_entry.Statement.{statement}
 use Rattle.query.proofs.look.from_entry.Tie as tie
 

@@ -2,7 +2,7 @@
 use mathlib.Core.Path.{sym, _∙_}
 use borrow.Author.Needs.{needs}
 use Rattle.answers.specs.Steps.{fromEntry}
-use Rattle.query.proofs.Opening.{open-broken, open-next}
+use Rattle.query.proofs.look.Counts.{open-broken, open-next}
 use Rattle.query.proofs.look.look.Statement.{statement}
 use Rattle.query.proofs.look.look.Tie as tie
 

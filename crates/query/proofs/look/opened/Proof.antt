@@ -9,8 +9,8 @@ use Rattle.base.specs.Limits.{entriesOf}
 use Rattle.answers.specs.Answers.{listed, answerFrom}
 use Rattle.answers.specs.Steps.{afterCount, opened}
 use Rattle.query.specs.Parts.{countFrom, openFrom}
-use Rattle.query.proofs.Opening.{count-room, count-goes}
-use Rattle.query.proofs.Walking.{steps, got-held}
+use Rattle.query.proofs.look.Counts.{count-room, count-goes}
+use Rattle.query.proofs.Programs.{steps, got-held}
 use Rattle.query.proofs.look.opened.Statement.{statement}
 use Rattle.query.proofs.look.opened.Tie as tie
 

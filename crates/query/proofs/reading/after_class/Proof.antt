@@ -1,7 +1,7 @@
 -- `reading::after_class` meets its contract. Assumes nothing.
 use borrow.Author.Needs.{needs}
 use Rattle.answers.specs.Steps.{afterClass}
-use Rattle.query.proofs.Walking.{steps}
+use Rattle.query.proofs.Programs.{steps}
 use Rattle.query.proofs.reading.after_class.Statement.{statement}
 use Rattle.query.proofs.reading.after_class.Tie as tie
 

@@ -4,7 +4,7 @@ use borrow.Author.Needs.{needs}
 use borrow.Author.Tests.{not-true, not-false}
 use Rattle.answers.specs.Answers.{answerFrom}
 use Rattle.answers.specs.Steps.{ancestry}
-use Rattle.query.proofs.Relating.{relation-refused, relation-apart, relation-above}
+use Rattle.query.proofs.relate.Relations.{relation-refused, relation-apart, relation-above}
 use Rattle.query.proofs.relate.at_or_above.Statement.{statement}
 use Rattle.query.proofs.relate.at_or_above.Tie as tie
 

@@ -6,8 +6,8 @@ use borrow.Author.Needs.{needs}
 use Rattle.answers.specs.Answers.{answerFrom}
 use Rattle.answers.specs.Steps.{compared, related}
 use Rattle.query.specs.Parts.{relatedFrom}
-use Rattle.query.proofs.Relating.{compared-goes}
-use Rattle.query.proofs.Walking.{steps, got-held}
+use Rattle.query.proofs.relate.Relations.{compared-goes}
+use Rattle.query.proofs.Programs.{steps, got-held}
 use Rattle.query.proofs.relate.compared.Statement.{statement}
 use Rattle.query.proofs.relate.compared.Tie as tie
 

@@ -1,5 +1,5 @@
 -- `relate::holds` meets its contract. Assumes nothing.
-use Rattle.query.proofs.Relating.{late, in-time}
+use Rattle.query.proofs.relate.Relations.{late, in-time}
 use Rattle.query.proofs.relate.holds.Statement.{statement}
 use Rattle.query.proofs.relate.holds.Tie as tie
 

@@ -3,8 +3,8 @@ use mathlib.Core.Path.{sym, _∙_}
 use native.Mathlib.Omega.{arith}
 use borrow.Author.Needs.{needs}
 use Rattle.query.specs.Parts.{relatedFrom}
-use Rattle.query.proofs.Opening.{open-broken}
-use Rattle.query.proofs.Relating.{opened-related}
+use Rattle.query.proofs.look.Counts.{open-broken}
+use Rattle.query.proofs.relate.Relations.{opened-related}
 use Rattle.query.proofs.relate.relate.Statement.{statement}
 use Rattle.query.proofs.relate.relate.Tie as tie
 

@@ -3,7 +3,7 @@ use borrow.Author.Needs.{needs}
 use native.Mathlib.Omega.{arith}
 use Rattle.answers.specs.Steps.{related}
 use Rattle.query.specs.Parts.{relatedFrom}
-use Rattle.query.proofs.Walking.{steps}
+use Rattle.query.proofs.Programs.{steps}
 use Rattle.query.proofs.relate.related.Statement.{statement}
 use Rattle.query.proofs.relate.related.Tie as tie
 

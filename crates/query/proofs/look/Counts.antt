@@ -14,7 +14,7 @@ use Rattle.answers.specs.Steps.{afterCount}
 use Rattle.answers.specs.declared.Cells.{Cells}
 use Rattle.query.specs.Parts.{countFrom, openFrom}
 use Rattle.query.specs.declared.look.Count.{Count}
-use Rattle.query.proofs.Walking.{ends, eq-yes, eq-no, lt-yes, lt-no}
+use Rattle.query.proofs.Programs.{ends, eq-yes, eq-no, lt-yes, lt-no}
 
 -- what the tests come to
 count-many : (len n : ℕ) → mostEntries < n → countFrom len n ≡ 0

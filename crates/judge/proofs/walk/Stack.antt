@@ -10,7 +10,7 @@ use Rattle.tree.specs.Forest.{Forest, empty, node, plant, grow, preorder, level
 use Rattle.tree.proofs.Preorders.{whole-more}
 use Rattle.tree.proofs.Forests.{order-short}
 use Rattle.judge.specs.Regions.{after, firstOf, Linked, heads, nexts}
-use Rattle.judge.proofs.Chains.{sibs, sibs-in, sibs-out, sibs-from}
+use Rattle.judge.proofs.link.Chains.{sibs, sibs-in, sibs-out, sibs-from}
 use Rattle.base.proofs.Views.{view-length, view-at, view-before, view-past, view-more, view-push}
 
 -- the forest of a chain with d chains pending behind it: it hangs that deep

@@ -1,4 +1,4 @@
--- Marking the entries of the preorder: the others are those whose climb never meets the top. Assumes nothing.
+-- MarkedTo the entries of the preorder: the others are those whose climb never meets the top. Assumes nothing.
 use mathlib.Core.Path.{_≡_, refl, sym, ap, _∙_}
 use mathlib.Core.Logic.{_⊎_, inl, inr}
 use mathlib.Core.List.{List}
@@ -19,20 +19,20 @@ use Rattle.tree.specs.Forest.{order}
 use Rattle.tree.specs.Faults.{lowest, meetsTop}
 use Rattle.tree.proofs.Forests.{order-once, order-short, order-meets, meets-full}
 use Rattle.judge.specs.Regions.{orAll, Marked}
-use Rattle.judge.proofs.Chains.{at-set}
+use Rattle.judge.proofs.link.Chains.{at-set}
 use Rattle.judge.proofs.Searches.{found-some, found-none, first-same}
 use Rattle.base.proofs.Views.{view-length, view-at, view-set, view-past}
 
 -- the first i of the preorder are marked, and no entry is that does not meet the top
-pub record Marking (ps : List ℕ) (i : ℕ) (marks : List ℕ) : Type 0 where
+pub record MarkedTo (ps : List ℕ) (i : ℕ) (marks : List ℕ) : Type 0 where
   pub done : (k : ℕ) → k < i → getD marks (getD (order ps) k 0) 0 ≡ 1
   pub only : (v : ℕ) → v < length ps → (getD marks v 0 ≡ 0) ⊎ (meetsTop ps v ≡ true)
 
 module _ (ps : List ℕ) (small : length ps ≤ topMark) where
-  pub mark-none : (marks : List ℕ) → ((v : ℕ) → v < length ps → getD marks v 0 ≡ 0) → Marking ps 0 marks
+  pub mark-none : (marks : List ℕ) → ((v : ℕ) → v < length ps → getD marks v 0 ≡ 0) → MarkedTo ps 0 marks
   mark-none marks h = record { done = λ k b. absurd (omega arith); only = λ v b. inl (h v b) }
 
-  pub mark-more : (marks : List ℕ) (i v : ℕ) → i < length (order ps) → v ≡ getD (order ps) i 0 → length marks ≡ length ps → Marking ps i marks → Marking ps (i + 1) (set marks v 1)
+  pub mark-more : (marks : List ℕ) (i v : ℕ) → i < length (order ps) → v ≡ getD (order ps) i 0 → length marks ≡ length ps → MarkedTo ps i marks → MarkedTo ps (i + 1) (set marks v 1)
   mark-more marks i v h e s m =
       let (b, t) = order-meets ps small i h in
       let own : meetsTop ps v ≡ true = ap (meetsTop ps) e ∙ t in
@@ -45,7 +45,7 @@ module _ (ps : List ℕ) (small : length ps ≤ topMark) where
       before k c q (yes d) = absurd (q (ap (λ j. getD (order ps) j 0) d ∙ sym e))
       before k c q (no d) = omega arith
 
-  pub mark-end : (marks : List ℕ) (i : ℕ) → length (order ps) ≤ i → Marking ps i marks → Marked ps marks
+  pub mark-end : (marks : List ℕ) (i : ℕ) → length (order ps) ≤ i → MarkedTo ps i marks → Marked ps marks
   mark-end marks i h m v b = go (meetsTop ps v) refl (m .only v b)
     where
       go : (t : Bool) → meetsTop ps v ≡ t → (getD marks v 0 ≡ 0) ⊎ (meetsTop ps v ≡ true) → getD marks v 0 ≡ cond t 1 0
@@ -89,7 +89,7 @@ module _ (ps space : List ℕ) (small : length ps ≤ topMark) (room : 6 * lengt
   pub order-kept : (q : ℕ) → q ≡ 5 * length ps + getD space i 0 → view 0 count (set space q 1) ≡ order ps
   order-kept q e = view-past 0 count space q 1 (omega (arith, order-short ps small)) ∙ o
 
-  pub mark-in : (q : ℕ) → q ≡ 5 * length ps + getD space i 0 → Marking ps i (view (5 * length ps) (length ps) space) → Marking ps (i + 1) (view (5 * length ps) (length ps) (set space q 1))
+  pub mark-in : (q : ℕ) → q ≡ 5 * length ps + getD space i 0 → MarkedTo ps i (view (5 * length ps) (length ps) space) → MarkedTo ps (i + 1) (view (5 * length ps) (length ps) (set space q 1))
   mark-in q e m =
       rw (view-set (5 * length ps) (length ps) space (getD space i 0) q 1 word-low e)
       (mark-more ps small (view (5 * length ps) (length ps) space) i (getD space i 0) (omega arith) word-is (view-length (5 * length ps) (length ps) space (omega arith)) m)

@@ -18,7 +18,7 @@ use Rattle.answers.proofs.Answering.{cells-listed, then-is}
 use Rattle.query.specs.Parts.{OpenedBy, pickAnswer, relatedFrom}
 use Rattle.query.specs.declared.look.Count.{Count}
 use Rattle.query.specs.declared.relate.Relation.{Relation}
-use Rattle.query.proofs.Opening.{open-next}
+use Rattle.query.proofs.look.Counts.{open-next}
 
 -- the interval's test, with a difference in place of a sum
 pub late : (first size other : ℕ) → other < first → false ≡ (leb first other && ltb other (first + size))

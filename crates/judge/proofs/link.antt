@@ -1,0 +1,2 @@
+-- Laws of the module `link`.
+pub mod Chains

@@ -1,0 +1,2 @@
+-- Laws of the module `lost`.
+pub mod Marks

@@ -1,0 +1,2 @@
+-- Laws of the module `walk`.
+pub mod Stack

@@ -1,0 +1,2 @@
+-- Laws of the module `group`.
+pub mod Rows

@@ -1,0 +1,2 @@
+-- Laws of the module `joining`.
+pub mod Joins

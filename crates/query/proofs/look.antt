@@ -1,0 +1,2 @@
+-- Laws of the module `look`.
+pub mod Counts

@@ -1,0 +1,2 @@
+-- Laws of the module `relate`.
+pub mod Relations
