@@ -27,7 +27,7 @@ enum tantsheko_number {
     TANTSHEKO_LOOP = 6,        /* a climb never meets the top: the lowest such entry */
     TANTSHEKO_UNKNOWN = 7,     /* an argument is no entry: the first such argument */
     TANTSHEKO_TOO_DEEP = 8,    /* deeper than the entry: the entry */
-    TANTSHEKO_BROKEN = 9,      /* the table is not a prepared one: 0 */
+    TANTSHEKO_BROKEN = 9,      /* the table is not one that the question can be answered from: 0 */
     TANTSHEKO_NOT_ABOVE = 10   /* u is not strictly above v: u */
 };
 

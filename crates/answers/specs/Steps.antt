@@ -40,7 +40,7 @@ afterLadpos n missing index =
 unfoldable pub afterAncestor : ℕ → ℕ → ℕ → Reading
 afterAncestor n missing w = ifLe n w broken (read (ladposCell n w) (afterLadpos n missing))
 
--- step 4: the ancestor for e, called w, where the jump entry is x above the answer
+-- step 4: the ancestor for e, called w, where the answer is x above the jump entry
 unfoldable pub readAncestor : ℕ → ℕ → ℕ → ℕ → Reading
 readAncestor n jump x e = read (ancestorCell n jump e) (afterAncestor n (x - 2 ^ e))
 

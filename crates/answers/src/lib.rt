@@ -5,15 +5,18 @@ ghost use Prim.Native.Nat.{_+_, _<_};
 ghost use lib.ListN.{set};
 ghost use Rattle.answers.specs.Answers.{pushed, listed, answerWords};
 
+// The places of a list of cells, and the words of an answer: its number, its result word, those places and their count.
+pub const PLACES: usize = 15;
+
+pub const ANSWER_WORDS: usize = PLACES + 3;
+
 // The cells read, in the order read. Places past the count are 0.
-#[repr(C)]
 pub struct Cells {
-    pub at: [u32; 15],
+    pub at: [u32; PLACES],
     pub count: u32,
 }
 
 // An answer: its number and result word, up to fifteen cell numbers and their count.
-#[repr(C)]
 pub struct Answer {
     pub number: u32,
     pub word: u32,
@@ -25,7 +28,7 @@ impl Cells {
         ensures { λ r. ⌜ r ≡ listed [] ⌝ }
     {
         Cells {
-            at: [0; 15],
+            at: [0; PLACES],
             count: 0,
         }
     }
@@ -69,7 +72,7 @@ impl Cells {
 
 impl Answer {
     // In words, as they are handed to other languages.
-    pub fn words(self) -> [u32; 18]
+    pub fn words(self) -> [u32; ANSWER_WORDS]
         ensures { λ r. ⌜ r ≡ answerWords self ⌝ }
     {
         let cells = self.cells;
@@ -97,7 +100,7 @@ impl Answer {
     }
 
     // The answer that stands in words.
-    pub fn of_words(words: [u32; 18]) -> Answer
+    pub fn of_words(words: [u32; ANSWER_WORDS]) -> Answer
         ensures { λ r. ⌜ answerWords r ≡ words ⌝ }
     {
         let at = [

@@ -1,4 +1,5 @@
-// The measures of a prepared table, as `specs/Limits` defines them: each number of the code stands here and nowhere else.
+// The measures of a prepared table and of the working space, as `specs/Limits` defines them, and the top mark. Each number of the engine's code stands here; the
+// numbers of the answers in `numbers`, the size of an answer in `answers`, the counter program's own in `lines::room`.
 ghost use mathlib.Core.Path.{_≡_};
 ghost use Rattle.base.specs.Limits.{headerOf, entriesOf, jumpRoom, tableWords, spaceWords};
 
@@ -42,7 +43,12 @@ pub const JUMPS: u32 = 11;
 // The local numbers of a group, and the climbs within it.
 pub const LOCAL_NUMBERS: usize = GROUP_LIMIT as usize;
 
-// The words of a group in GROUPS.
+// A cell of the shape table where there is no climb.
+pub const NO_LOCAL: u8 = 255;
+
+// The cells of an entry in LADDERS, and the words of a group in GROUPS.
+pub const LADDER_WORDS: u32 = 2;
+
 pub const GROUP_WORDS: u32 = 3;
 
 // The regions of n words of the working space.

@@ -6,6 +6,7 @@ ghost use Rattle.base.specs.Numbers.{Says};
 ghost use Rattle.class_example.specs.Class.{classFrom};
 use base::Node;
 use base::Reply;
+use base::numbers::ACCEPTED;
 use prepare::prepare;
 use query::level;
 
@@ -16,7 +17,7 @@ pub fn class(parents: &[u32], table: &mut [u32], space: &mut [u32], v: Node, d: 
     ensures left { λ _. ⌜ now (space .exit) ≡ spaceAfter (now (parents .entry)) (now (table .entry)) (now (space .entry)) ⌝ }
 {
     let reply = prepare(parents, table, space);
-    if reply.number == 0 {
+    if reply.number == ACCEPTED {
         let answer = level(table, v, d);
         return Reply {
             number: answer.number,

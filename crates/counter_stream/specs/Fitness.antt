@@ -51,7 +51,7 @@ phaseFits AwaitsParent st = ltb (st .filled) (st .count) && leb (st .count) most
 phaseFits AwaitsQuestion st = leb (st .count) mostListed
 phaseFits AtEnd st = true
 
--- a state that the program can come to with these buffers
+-- a state fits these buffers: they have room, it holds at most 23 bytes and no line feed, and its phase's numbers are those of a list of at most 512 entries
 unfoldable pub fits : State → Lent → Bool
 fits st b = (hasRoom b && leb (st .held) mostBytes) && (phaseFits (st .phase) st && not (has (heldBytes st b) lineFeed))
 

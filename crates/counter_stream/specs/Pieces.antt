@@ -22,7 +22,7 @@ pub record Buffers (b : Lent) (out : List ℕ) : Type 0 where
   pub room : Room b
   pub row : rowRoom ≤ length out
 
--- a state that the program can come to with these buffers
+-- a state fits these buffers: the same, as facts
 pub record StateFits (st : State) (b : Lent) : Type 0 where
   pub room : Room b
   pub few : st .held ≤ mostBytes

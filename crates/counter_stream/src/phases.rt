@@ -103,7 +103,7 @@ fn phase_fits(state: State) -> bool
     }
 }
 
-// Whether the program can come to a state with these buffers.
+// Whether a state fits these buffers.
 pub(crate) fn is_fit(
     state: State,
     line: &[u8],

@@ -7,6 +7,7 @@ ghost use Rattle.table.specs.Preparing.{preparing, tableAfter, spaceAfter};
 ghost use Rattle.answers.specs.Answers.{answerTo, answerWords};
 ghost use Rattle.answers.specs.Steps.{level, climbing, rating, ancestry, branch};
 ghost use Rattle.exports.specs.ReplyWords.{replyWords};
+use answers::ANSWER_WORDS;
 use base::Node;
 use base::limits::space_words;
 use base::limits::table_words;
@@ -45,7 +46,7 @@ pub extern "C" fn tantsheko_prepare(
 
 // The class of v at depth d.
 #[no_mangle]
-pub extern "C" fn tantsheko_level(table: &[u32], v: u32, d: u32, answer: &mut [u32; 18])
+pub extern "C" fn tantsheko_level(table: &[u32], v: u32, d: u32, answer: &mut [u32; ANSWER_WORDS])
     ensures { λ _. ⌜ now (answer .exit) ≡ answerWords (answerTo (now (table .entry)) (level (length (now (table .entry))) v d)) ⌝ }
 {
     query::look_words(table, false, Node(v), d, answer);
@@ -53,7 +54,7 @@ pub extern "C" fn tantsheko_level(table: &[u32], v: u32, d: u32, answer: &mut [u
 
 // The entry k above v.
 #[no_mangle]
-pub extern "C" fn tantsheko_climb(table: &[u32], v: u32, k: u32, answer: &mut [u32; 18])
+pub extern "C" fn tantsheko_climb(table: &[u32], v: u32, k: u32, answer: &mut [u32; ANSWER_WORDS])
     ensures { λ _. ⌜ now (answer .exit) ≡ answerWords (answerTo (now (table .entry)) (climbing (length (now (table .entry))) v k)) ⌝ }
 {
     query::look_words(table, true, Node(v), k, answer);
@@ -61,7 +62,7 @@ pub extern "C" fn tantsheko_climb(table: &[u32], v: u32, k: u32, answer: &mut [u
 
 // The class of v at rating level d.
 #[no_mangle]
-pub extern "C" fn tantsheko_rating(table: &[u32], v: u32, d: u32, answer: &mut [u32; 18])
+pub extern "C" fn tantsheko_rating(table: &[u32], v: u32, d: u32, answer: &mut [u32; ANSWER_WORDS])
     ensures { λ _. ⌜ now (answer .exit) ≡ answerWords (answerTo (now (table .entry)) (rating (length (now (table .entry))) v d)) ⌝ }
 {
     query::look_words(table, false, Node(v), d, answer);
@@ -69,7 +70,12 @@ pub extern "C" fn tantsheko_rating(table: &[u32], v: u32, d: u32, answer: &mut [
 
 // Whether u is at or above v: 1 or 0.
 #[no_mangle]
-pub extern "C" fn tantsheko_ancestry(table: &[u32], u: u32, v: u32, answer: &mut [u32; 18])
+pub extern "C" fn tantsheko_ancestry(
+    table: &[u32],
+    u: u32,
+    v: u32,
+    answer: &mut [u32; ANSWER_WORDS],
+)
     ensures { λ _. ⌜ now (answer .exit) ≡ answerWords (answerTo (now (table .entry)) (ancestry (length (now (table .entry))) u v)) ⌝ }
 {
     let found = query::ancestry(table, Node(u), Node(v));
@@ -78,7 +84,7 @@ pub extern "C" fn tantsheko_ancestry(table: &[u32], u: u32, v: u32, answer: &mut
 
 // The child of u on the way to v.
 #[no_mangle]
-pub extern "C" fn tantsheko_branch(table: &[u32], u: u32, v: u32, answer: &mut [u32; 18])
+pub extern "C" fn tantsheko_branch(table: &[u32], u: u32, v: u32, answer: &mut [u32; ANSWER_WORDS])
     ensures { λ _. ⌜ now (answer .exit) ≡ answerWords (answerTo (now (table .entry)) (branch (length (now (table .entry))) u v)) ⌝ }
 {
     let found = query::branch(table, Node(u), Node(v));

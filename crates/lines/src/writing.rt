@@ -10,6 +10,7 @@ ghost use Rattle.lines.specs.Texts.{said};
 ghost use Rattle.lines.specs.Counter.{badLine, badList, headerRow, replyRow};
 use crate::room::ROW_ROOM;
 use base::Node;
+use base::numbers::ACCEPTED;
 
 // A text: its first `count` bytes.
 pub struct Text {
@@ -78,7 +79,7 @@ fn with_class(text: Text, number: u32, word: u32) -> Text
     requires { ⌜ text .count + 11 ≤ 64 ⌝ }
     ensures { λ r. ⌜ (r .count ≤ text .count + 11) × (said (r .bytes) (r .count) ≡ said (text .bytes) (text .count) ++ (cond (eqb number 0) (decimal word) (dash ∷ []) ++ comma ∷ [])) ⌝ }
 {
-    if number == 0 {
+    if number == ACCEPTED {
         return with_field(text, word, b',');
     }
     with_byte(with_byte(text, b'-'), b',')

@@ -12,6 +12,7 @@ use crate::look::look_words;
 use crate::reading::broken;
 use crate::reading::read;
 use crate::relate::relate;
+use answers::ANSWER_WORDS;
 use answers::Answer;
 use answers::Cells;
 use base::Node;
@@ -67,7 +68,7 @@ fn deeper(table: &[u32], n: u32, v: Node, depth: u32, cells: Cells) -> Answer
     if n <= depth {
         return broken(cells);
     }
-    let mut words: [u32; 18] = [0; 18];
+    let mut words: [u32; ANSWER_WORDS] = [0; ANSWER_WORDS];
     look_words(table, false, v, depth + 1, &mut words);
     let inner = Answer::of_words(words);
     let more = inner.cells;

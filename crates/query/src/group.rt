@@ -22,6 +22,7 @@ use base::limits::GROUPS;
 use base::limits::HEADER_CELLS;
 use base::limits::LOCAL_NUMBERS;
 use base::limits::MICRO_MARK;
+use base::limits::NO_LOCAL;
 use base::limits::ORDER;
 use base::limits::SHAPE_COUNT;
 use base::numbers::ACCEPTED;
@@ -73,7 +74,7 @@ fn after_shape(
         return broken(cells);
     }
     let row = row(shape, local);
-    if row[0] == 255 {
+    if row[0] == NO_LOCAL {
         return broken(cells);
     }
     in_group(table, n, d, depth, group, shape, local, row, cells)
@@ -96,7 +97,7 @@ fn in_group(
 {
     let climbs = depth - d;
     let to = reached(row, climbs);
-    if to == 255 {
+    if to == NO_LOCAL {
         let before = reached(row, climbs - 1);
         let got = read(
             table,
@@ -105,7 +106,7 @@ fn in_group(
         );
         let p = Node(got.word);
         let more = got.cells;
-        return after_parent(table, n, d, before != 255, p, more);
+        return after_parent(table, n, d, before != NO_LOCAL, p, more);
     }
     let got = read(
         table,
@@ -124,11 +125,11 @@ fn reached(row: [u8; LOCAL_NUMBERS], k: u32) -> u8
     if k < GROUP_LIMIT {
         row[k as usize]
     } else {
-        255
+        NO_LOCAL
     }
 }
 
-// ORDER at the group's position plus the local number reached. The sum is tested before it is made, so that it does not wrap.
+// ORDER at the group's position plus the local number reached. The position is tested before the sum is made, so that the sum does not wrap.
 fn after_position(table: &[u32], n: u32, local: u32, position: Position, cells: Cells) -> Answer
     requires { ⌜ (Sized (now table) n) × (local < 256) ⌝ }
     ensures { λ r. ⌜ r ≡ answerFrom (now (table .entry)) cells (afterPosition n local (position .0)) ⌝ }

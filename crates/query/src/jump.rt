@@ -1,11 +1,10 @@
 // Step 4: one jump and one ladder.
 ghost use mathlib.Core.Path.{_≡_};
 ghost use mathlib.Core.List.{[]};
-ghost use mathlib.Core.Option.{some};
-ghost use Prim.Native.Nat.{_+_, _-_, _*_, _^_, _<_, _≤_};
+ghost use Prim.Native.Nat.{_^_, _<_, _≤_};
 ghost use Rattle.base.specs.Limits.{Sized, jumpRoom};
 ghost use Rattle.answers.specs.Answers.{listed, answerFrom};
-ghost use Rattle.answers.specs.Steps.{exponent, afterLadpos, afterAncestor, readAncestor, afterJumpDepth, fromJump};
+ghost use Rattle.answers.specs.Steps.{afterLadpos, afterAncestor, readAncestor, afterJumpDepth, fromJump};
 use crate::power::exponent;
 use crate::power::power;
 use crate::reading::after_class;
@@ -16,6 +15,7 @@ use answers::Cells;
 use base::Node;
 use base::limits::HEADER_CELLS;
 use base::limits::JUMPS;
+use base::limits::LADDER_WORDS;
 use base::limits::LADDERS;
 use base::limits::LADPOS;
 use base::limits::RECORD_WORDS;
@@ -54,7 +54,7 @@ fn after_jump_depth(table: &[u32], n: u32, d: u32, jump: u32, depth: u32, cells:
     read_ancestor(table, n, jump, x, exponent(x), cells)
 }
 
-// The ancestor for e, where the jump entry is x above the answer.
+// The ancestor for e, where the answer is x above the jump entry.
 fn read_ancestor(table: &[u32], n: u32, jump: u32, x: u32, e: u32, cells: Cells) -> Answer
     requires { ⌜ (Sized (now table) n) × (jump < jumpRoom n) × (e < 20) × (2 ^ e ≤ x) ⌝ }
     ensures { λ r. ⌜ r ≡ answerFrom (now (table .entry)) cells (readAncestor n jump x e) ⌝ }
@@ -92,7 +92,7 @@ fn after_ladpos(table: &[u32], n: u32, missing: u32, index: u32, cells: Cells) -
         return broken(cells);
     }
     let at = index - missing;
-    if 2 * n <= at {
+    if LADDER_WORDS * n <= at {
         return broken(cells);
     }
     let got = read(table, HEADER_CELLS + LADDERS * n + at, cells);

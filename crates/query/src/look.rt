@@ -12,6 +12,7 @@ use crate::joining::with_four;
 use crate::jump::from_jump;
 use crate::reading::broken;
 use crate::reading::read;
+use answers::ANSWER_WORDS;
 use answers::Answer;
 use answers::Cells;
 use base::Node;
@@ -27,9 +28,9 @@ use base::numbers::UNKNOWN;
 
 const HEADER: usize = HEADER_CELLS as usize;
 
-// As `look`, in words of the caller's. The questions of other languages and branch ask here alone, so that the compiler sets the steps in place once and
-// writes each word where it is wanted.
-pub fn look_words(table: &[u32], climbs: bool, v: Node, x: u32, words: &mut [u32; 18])
+// As `look`, in words of the caller's. The level lookup, the climb and the rating lookup of other languages, and branch, ask here alone, so that the compiler
+// sets the steps in place once and writes each word where it is wanted.
+pub fn look_words(table: &[u32], climbs: bool, v: Node, x: u32, words: &mut [u32; ANSWER_WORDS])
     ensures { λ _. ⌜ now (words .exit) ≡ answerWords (answerTo (now (table .entry)) (opened (length (now (table .entry))) (fromEntry climbs (v .0) x))) ⌝ }
 {
     let answer = look(table, climbs, v, x);

@@ -1,7 +1,7 @@
 // Powers of two.
 ghost use mathlib.Core.Path.{_≡_};
 ghost use mathlib.Core.Option.{some};
-ghost use Prim.Native.Nat.{_<_, _≤_, _^_};
+ghost use Prim.Native.Nat.{_<_, _^_};
 ghost use Rattle.answers.specs.Steps.{exponent};
 
 // The exponent of the largest power of two not above x.

@@ -32,7 +32,7 @@ pub(crate) fn read(table: &[u32], cell: u32, cells: Cells) -> Got
 
 // 9: the table is broken.
 pub(crate) fn broken(cells: Cells) -> Answer
-    ensures { λ r. ⌜ r ≡ record { number = 9; word = 0; cells = cells } ⌝ }
+    ensures { λ r. ⌜ r ≡ record { number = broken .number; word = broken .word; cells = cells } ⌝ }
 {
     Answer {
         number: BROKEN,

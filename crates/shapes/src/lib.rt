@@ -6,6 +6,7 @@ ghost use mathlib.Core.Path.{_≡_};
 ghost use Rattle.base.specs.Limits.{groupLimit};
 ghost use Rattle.shapes.specs.Climbs.{rowOf, rowsOf, Rule};
 use base::limits::LOCAL_NUMBERS;
+use base::limits::NO_LOCAL;
 
 // A shape's part of the shape table: a row of five climbs (0 to 4) for each of five local numbers, 255 where there is none. There are 23 shapes; any
 // other number has only 255. A match with a literal in each arm copies one shape's cells from read-only tables; a constant array is rebuilt whole at
@@ -198,6 +199,6 @@ pub fn row(shape: u32, local: u32) -> [u8; LOCAL_NUMBERS]
         2 => all[2],
         3 => all[3],
         4 => all[4],
-        _ => [255; LOCAL_NUMBERS],
+        _ => [NO_LOCAL; LOCAL_NUMBERS],
     }
 }

@@ -1,4 +1,4 @@
--- MarkedTo the entries of the preorder: the others are those whose climb never meets the top. Assumes nothing.
+-- The entries of the preorder are marked: the others are those whose climb never meets the top. Assumes nothing.
 use mathlib.Core.Path.{_≡_, refl, sym, ap, _∙_}
 use mathlib.Core.Logic.{_⊎_, inl, inr}
 use mathlib.Core.List.{List}
