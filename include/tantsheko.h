@@ -1,8 +1,8 @@
 /* The proved class tree for C. Link with libexports.a, which `rt staticlib exports` writes to target/staticlib.
  *
- * A list is an array of words, one for each entry: its parent's number, or TANTSHEKO_TOP. Arrays that one call takes
- * must not overlap. No other precondition is left to the caller: lists, tables and numbers may hold anything, and bad
- * input gets its numbered refusal. Nothing is allocated, and no function keeps a pointer. */
+ * A list is an array of words, one for each entry: its parent's number, or TANTSHEKO_TOP. Each
+ * array has the length that is stated, and arrays that one call takes do not overlap. No other precondition is left to the
+ * caller: lists, tables and numbers may hold anything, and bad input gets its numbered refusal. Nothing is allocated, and no function keeps a pointer. */
 #ifndef TANTSHEKO_H
 #define TANTSHEKO_H
 

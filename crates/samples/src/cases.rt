@@ -62,7 +62,7 @@ fn size_at(k: usize) -> usize
     }
 }
 
-// How many lists a line has. There are 53 sizes, each with two numberings.
+// How many lists a line has. There are 53 sizes: four lists of each for a kind, and one of each kind for a fault or a length.
 pub fn count_at(line: usize) -> usize
     ensures { λ r. ⌜ r ≡ countOf line ⌝ }
 {
