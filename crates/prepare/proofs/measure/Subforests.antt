@@ -1,0 +1,234 @@
+-- SIZE, HEIGHT and LONG by position, from ABOVE: what hangs below an entry, of the positions from one on. Assumes nothing.
+use mathlib.Core.Path.{_≡_, refl, sym, ap, _∙_}
+use mathlib.Core.List.{List, [], _∷_, _++_, append-assoc}
+use mathlib.Core.Bool.{Bool, true}
+use mathlib.Core.Option.{some, Option·elim}
+use Prim.Native.Nat.{ℕ, suc, _+_, _≤_, _<_}
+use native.Mathlib.Omega.{arith}
+use native.Mathlib.Decide.{ℕ-discrete, decLe}
+use lib.ListN.{length, take, drop}
+use lib.Seq.{split-at}
+use lib.Dec.{leb}
+use borrow.Author.Tests.{le-leb, lt-leb}
+use Rattle.base.specs.Limits.{mostEntries}
+use Rattle.base.specs.Lists.{keep, place}
+use Rattle.base.proofs.Counts.{times}
+use Rattle.base.proofs.Places.{times-same, place-stands}
+use Rattle.base.proofs.Keeping.{keep-append, keep-none}
+use Rattle.tree.specs.Parents.{topMark, word, parent, children}
+use Rattle.tree.specs.Forest.{Forest, empty, node, plant, forestSize, forestHeight, tallest, under, height, position}
+use Rattle.tree.proofs.Climbing.{parent-some, parent-in}
+use Rattle.tree.proofs.OneTree.{tree-meets}
+use Rattle.tree.proofs.Forests.{under-eq, child-of, of-child}
+use Rattle.tree.proofs.Positions.{at-position, position-in}
+use Rattle.tree.proofs.Intervals.{family-room, parent-before, child-at}
+use Rattle.prepare.specs.Arrays.{OneTree, entryAt}
+use Rattle.prepare.proofs.Preorder.{Over, Words, small, holds-at}
+
+-- what passes two tests that agree, and a test that all pass
+keep-alike : (s t : ℕ → Bool) (l : List ℕ) → ((x : ℕ) → 1 ≤ times x l → s x ≡ t x) → keep s l ≡ keep t l
+unfolding keep times
+keep-alike s t [] h = refl
+keep-alike s t (y ∷ l) h = rw (h y (omega (arith, times-same y y l refl)), keep-alike s t l (λ x k. h x (omega arith)))
+
+keep-all : (t : ℕ → Bool) (l : List ℕ) → ((x : ℕ) → 1 ≤ times x l → t x ≡ true) → keep t l ≡ l
+unfolding keep times
+keep-all t [] h = refl
+keep-all t (y ∷ l) h = rw (h y (omega (arith, times-same y y l refl))) (ap (_∷_ y) (keep-all t l (λ x k. h x (omega arith))))
+
+-- a list at one that stands in it
+parted : (x : ℕ) (l : List ℕ) → 1 ≤ times x l → (a : List ℕ) × (b : List ℕ) × (l ≡ a ++ (x ∷ b))
+parted x l h =
+    let i = place x l in
+    let (b, e) = place-stands x l h in
+    (take i l, drop (suc i) l, split-at l i 0 b ∙ ap (λ y. take i l ++ (y ∷ drop (suc i) l)) e)
+
+-- a number that is not i is at least i just where it is more
+leb-next : (i x : ℕ) → (x ≡ i → ⊥) → leb i x ≡ leb (suc i) x
+leb-next i x o = go (decLe i x)
+  where
+    go : Dec (i ≤ x) → leb i x ≡ leb (suc i) x
+    go (yes l) = le-leb i x l ∙ sym (le-leb (suc i) x (omega arith))
+    go (no l) = lt-leb i x (omega arith) ∙ sym (lt-leb (suc i) x (omega arith))
+
+-- the entries of two first levels joined
+size-join : (f : ℕ → Forest) (vs ws : List ℕ) → forestSize (plant f (vs ++ ws)) ≡ forestSize (plant f vs) + forestSize (plant f ws)
+unfolding forestSize plant
+size-join f [] ws = omega arith
+size-join f (v ∷ vs) ws = omega (arith, size-join f vs ws)
+
+-- a forest has no more levels than entries
+height-most : (f : Forest) → forestHeight f ≤ forestSize f
+unfolding forestHeight forestSize
+height-most empty = omega arith
+height-most (node v b later) = omega (arith, height-most b, height-most later)
+
+-- the children of v that stand at position i or behind it, and what hangs below v with them
+abbrev late : List ℕ → ℕ → ℕ → List ℕ
+late ps i v = keep (λ c. leb i (position ps c)) (children ps v)
+
+unfoldable pub hanging : List ℕ → ℕ → ℕ → Forest
+hanging ps i v = plant (under ps) (late ps i v)
+
+-- a child among the children of p: those before it stand earlier, and those behind it later
+record Child (ps : List ℕ) (c p : ℕ) : Type 0 where
+  before : List ℕ
+  after : List ℕ
+  children-are : children ps p ≡ before ++ (c ∷ after)
+  earlier : (x : ℕ) → 1 ≤ times x before → position ps x < position ps c
+  later : (x : ℕ) → 1 ≤ times x after → position ps c < position ps x
+
+module _ {ps : List ℕ} (t : OneTree ps) where
+  -- of two children the one that is listed first stands earlier
+  elder : (v : ℕ) (a b e : List ℕ) (x y : ℕ) → v < length ps → children ps v ≡ a ++ (x ∷ (b ++ (y ∷ e))) → position ps x < position ps y
+  unfolding forestSize plant
+  elder v a b e x y h q =
+      omega (arith, child-at ps (small t) (t .tree) v a x (b ++ (y ∷ e)) h q, child-at ps (small t) (t .tree) v (a ++ (x ∷ b)) y e h (q ∙ sym (append-assoc a (x ∷ b) (y ∷ e))), size-join (under ps) a (x ∷ b))
+
+  child : (c p : ℕ) → parent ps c ≡ some p → Child ps c p
+  child c p e =
+      let (hc, hp, w) = parent-some ps c p e in
+      let (a, b, q) = parted c (children ps p) (omega (arith, rw w at (of-child ps (small t) c hc))) in
+      record {
+        before = a;
+        after = b;
+        children-are = q;
+        earlier = λ x k. let (m, r, z) = parted x a k in elder p m r b x c hp (q ∙ ap (λ l. l ++ (c ∷ b)) z ∙ append-assoc m (x ∷ r) (c ∷ b));
+        later = λ x k. let (m, r, z) = parted x b k in elder p a m r c x hp (q ∙ ap (λ l. a ++ (c ∷ l)) z);
+      }
+
+  under-is : (v : ℕ) → v < length ps → under ps v ≡ plant (under ps) (children ps v)
+  under-is v h = under-eq ps (small t) v h (tree-meets ps (small t) (t .tree) v h)
+
+  -- behind all positions nothing hangs, and from the position behind v on all that is below it
+  hanging-none : (v : ℕ) → hanging ps (length ps) v ≡ empty
+  unfolding hanging plant
+  hanging-none v =
+      ap (plant (under ps)) (keep-none _ (children ps v) (λ x k. lt-leb (length ps) (position ps x) (position-in ps (small t) (t .tree) x (child-of ps (small t) v x k .0))))
+
+  hanging-all : (i v : ℕ) → v < length ps → i ≤ suc (position ps v) → hanging ps i v ≡ under ps v
+  unfolding hanging
+  hanging-all i v h b =
+      ap (plant (under ps)) (keep-all _ (children ps v) (λ x k.
+      let (g, w) = child-of ps (small t) v x k in
+      le-leb i (position ps x) (omega (arith, parent-before ps (small t) (t .tree) x v (parent-in ps x g (omega arith) ∙ ap some w)))))
+      ∙ sym (under-is v h)
+
+  module _ (c p : ℕ) (e : parent ps c ≡ some p) where
+    abbrev k : Child ps c p
+    k = child c p e
+
+    -- the children from the position of c on are c and those behind it, and from the next position on those behind it
+    late-at : (i : ℕ) → position ps c ≤ i → i ≤ suc (position ps c) → late ps i p ≡ keep (λ x. leb i (position ps x)) (c ∷ []) ++ k .after
+    late-at i h l =
+        let test : ℕ → Bool = λ x. leb i (position ps x) in
+        ap (keep test) (k .children-are)
+        ∙ keep-append test (k .before) (c ∷ k .after)
+        ∙ ap (λ m. m ++ keep test (c ∷ k .after)) (keep-none test (k .before) (λ x b. lt-leb i (position ps x) (omega (arith, k .earlier x b))))
+        ∙ keep-append test (c ∷ []) (k .after)
+        ∙ ap (λ m. keep test (c ∷ []) ++ m) (keep-all test (k .after) (λ x b. le-leb i (position ps x) (omega (arith, k .later x b))))
+
+    late-here : late ps (position ps c) p ≡ c ∷ k .after
+    unfolding keep
+    late-here = late-at (position ps c) (omega arith) (omega arith) ∙ rw (le-leb (position ps c) (position ps c) (omega arith))
+
+    late-next : late ps (suc (position ps c)) p ≡ k .after
+    unfolding keep
+    late-next = late-at (suc (position ps c)) (omega arith) (omega arith) ∙ rw (lt-leb (suc (position ps c)) (position ps c) (omega arith))
+
+    -- so c hangs below its parent before what hangs there from the next position on
+    hanging-more : hanging ps (position ps c) p ≡ node c (under ps c) (hanging ps (suc (position ps c)) p)
+    unfolding hanging plant
+    hanging-more = ap (plant (under ps)) late-here ∙ ap (λ l. node c (under ps c) (plant (under ps) l)) (sym late-next)
+
+    hanging-fits : forestSize (hanging ps (position ps c) p) ≤ forestSize (under ps p)
+    unfolding hanging
+    hanging-fits =
+        omega (arith, ap (λ l. forestSize (plant (under ps) l)) late-here, size-join (under ps) (k .before) (c ∷ k .after), ap forestSize (under-is p (parent-some ps c p e .1) ∙ ap (plant (under ps)) (k .children-are)))
+
+    -- and below no other entry
+    hanging-same : (v : ℕ) → (v ≡ p → ⊥) → hanging ps (position ps c) v ≡ hanging ps (suc (position ps c)) v
+    unfolding hanging
+    hanging-same v o =
+        ap (plant (under ps)) (keep-alike _ _ (children ps v) (λ x b.
+        let (h, w) = child-of ps (small t) v x b in
+        leb-next (position ps c) (position ps x) (λ q. o (sym w ∙ ap (word ps) (sym (at-position ps (small t) (t .tree) x h) ∙ ap (entryAt ps) q ∙ at-position ps (small t) (t .tree) c (parent-some ps c p e .0)) ∙ parent-some ps c p e .2))))
+
+-- what a function says of what hangs below each entry from position i on, at the entry's position
+abbrev pub Hung : List ℕ → (Forest → ℕ) → ℕ → (ℕ → ℕ) → Type 0
+Hung ps g i read = Words ps (λ v. g (hanging ps i v)) read
+
+-- SIZE, HEIGHT and LONG of an entry, of what hangs below it
+abbrev pub sizeOf : Forest → ℕ
+sizeOf f = suc (forestSize f)
+
+abbrev pub heightOf : Forest → ℕ
+heightOf f = suc (forestHeight f)
+
+abbrev pub longOf : List ℕ → Forest → ℕ
+longOf ps f = Option·elim (tallest f) topMark (position ps)
+
+module _ {ps : List ℕ} (t : OneTree ps) where
+  -- at the start nothing hangs below any entry, and once the positions behind one are done all does that is below it
+  module _ (g : Forest → ℕ) (read : ℕ → ℕ) where
+    pub hung-none : ((k : ℕ) → k < length ps → read k ≡ g empty) → Hung ps g (length ps) read
+    hung-none e k h = e k h ∙ ap g (sym (hanging-none t (entryAt ps k)))
+
+    pub hung-all : (i : ℕ) → Hung ps g i read → (k : ℕ) → i ≤ suc k → k < length ps → read k ≡ g (under ps (entryAt ps k))
+    hung-all i w k b h = let here = holds-at t k h in w k h ∙ ap g (hanging-all t i (entryAt ps k) (here .inside) (omega arith))
+
+  -- one position further down
+  module _ (at over p : ℕ) (h : at < length ps) (o : Over ps at over p) where
+    abbrev c : ℕ
+    c = entryAt ps at
+
+    c-at : position ps c ≡ at
+    c-at = holds-at t at h .place
+
+    abbrev grown : Forest
+    grown = node c (under ps c) (hanging ps (suc at) (entryAt ps over))
+
+    more : hanging ps at (entryAt ps over) ≡ grown
+    more = rw (o .there .entry) (rw c-at at (hanging-more t c p (o .parent-is)))
+
+    same : (k : ℕ) → k < length ps → (k ≡ over → ⊥) → hanging ps at (entryAt ps k) ≡ hanging ps (suc at) (entryAt ps k)
+    same k l q = rw c-at at (hanging-same t c p (o .parent-is) (entryAt ps k) (λ z. q (sym (holds-at t k l .place) ∙ ap (position ps) z ∙ o .there .place)))
+
+    -- the word of the entry above is that of one entry more below it, and the others stay
+    pub hung-more : (g : Forest → ℕ) (read now : ℕ → ℕ) → Hung ps g (suc at) read → ((k : ℕ) → k < length ps → (k ≡ over → ⊥) → now k ≡ read k) → now over ≡ g grown → Hung ps g at now
+    hung-more g read now w others here k l = go (ℕ-discrete k over)
+      where
+        go : Dec (k ≡ over) → now k ≡ g (hanging ps at (entryAt ps k))
+        go (yes q) = rw q (here ∙ ap g (sym more))
+        go (no q) = others k l q ∙ w k l ∙ ap g (sym (same k l q))
+
+    -- SIZE: the sum is that of one entry more, and fits
+    module _ (read : ℕ → ℕ) (w : Hung ps sizeOf (suc at) read) where
+      pub sum-is : read over + read at ≡ sizeOf grown
+      unfolding forestSize
+      sum-is = omega (arith, w over (o .there .low), hung-all sizeOf read (suc at) w at (omega arith) h)
+
+      pub sum-fits : read over + read at ≤ mostEntries
+      sum-fits =
+          let few = t .few in
+          omega (arith, few, sum-is, ap sizeOf more, ap (λ v. forestSize (hanging ps at v)) (o .there .entry), rw c-at at (hanging-fits t c p (o .parent-is)), family-room ps (small t) (t .tree) p (o .there .inside))
+
+    -- HEIGHT and LONG: the child is the tallest of those met, the first of them on a tie, or not
+    module _ (read : ℕ → ℕ) (w : Hung ps heightOf (suc at) read) where
+      high : read at ≡ height ps c
+      high = hung-all heightOf read (suc at) w at (omega arith) h
+
+      pub rise-fits : read at ≤ mostEntries
+      rise-fits = let few = t .few in omega (arith, few, high, height-most (under ps c), family-room ps (small t) (t .tree) c (holds-at t at h .inside))
+
+      pub taller : read over ≤ read at + 1 → (read at + 1 ≡ heightOf grown) × (at ≡ longOf ps grown)
+      unfolding forestHeight tallest Option·elim
+      taller g =
+          let z = w over (o .there .low) in
+          (omega (arith, high, z), rw (le-leb (forestHeight (hanging ps (suc at) (entryAt ps over))) (height ps c) (omega (arith, high, z))) (sym c-at))
+
+      pub shorter : read at + 1 < read over → (read over ≡ heightOf grown) × (longOf ps (hanging ps (suc at) (entryAt ps over)) ≡ longOf ps grown)
+      unfolding forestHeight tallest
+      shorter g =
+          let z = w over (o .there .low) in
+          (omega (arith, high, z), rw (lt-leb (forestHeight (hanging ps (suc at) (entryAt ps over))) (height ps c) (omega (arith, high, z))))
