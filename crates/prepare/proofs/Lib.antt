@@ -1,8 +1,6 @@
 -- How the passes over the preorder fill their sections, how the sections make the table, and what preparing answers.
 pub mod Preorder
-pub mod Lists
 pub mod Roots
-pub mod Lent
 pub mod Space
 pub mod Calls
 pub mod Promises

@@ -7,12 +7,11 @@ use native.Mathlib.Omega.{arith}
 use borrow.Rule.Slice.PartMut.{midOf, putMid}
 use lib.ListN.{length, getD, set}
 use Rattle.base.specs.Lists.{view, put}
-use Rattle.base.proofs.Puts.{lent-back, put-length, put-view}
+use Rattle.base.proofs.Puts.{lent-back, put-length, put-view, lent, Apart, stays, set-put}
 use Rattle.base.proofs.Views.{view-at}
 use Rattle.tree.specs.Parents.{depth}
 use Rattle.prepare.specs.Arrays.{OneTree, entryAt, depthsOf, abovesOf}
 use Rattle.prepare.specs.Stages.{Walked, Linked, Pathed}
-use Rattle.prepare.proofs.Lent.{lent, Apart, stays, set-put}
 use Rattle.prepare.proofs.Preorder.{array-length}
 
 module _ {ps space : List ℕ} (w : Walked ps space) where

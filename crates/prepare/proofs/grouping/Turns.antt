@@ -10,8 +10,11 @@ use lib.ListN.{length, set, take, drop, replicate}
 use lib.Seq.{take-all, take-at}
 use Rattle.base.specs.Limits.{groupLimit}
 use Rattle.base.specs.Lists.{keep, padded}
-use Rattle.base.proofs.Rows.{rows-length}
+use Rattle.base.proofs.Rows.{rows-length, rows-more}
 use Rattle.base.proofs.Views.{Laid, laid-none, laid-length, laid-more}
+use Rattle.base.proofs.Puts.{wiped}
+use Rattle.base.proofs.Lists.{drop-map}
+use Rattle.base.proofs.Keeping.{keep-few, keep-next, keep-same}
 use Rattle.tree.specs.Parents.{topMark, parent, depth}
 use Rattle.tree.specs.Forest.{levels, under, size, family, order, position}
 use Rattle.tree.proofs.OneTree.{tree-meets}
@@ -23,8 +26,6 @@ use Rattle.shapes.specs.Walks.{walkRound, shapeNumber}
 use Rattle.climbs.proofs.Groups.{rootsWithin}
 use Rattle.climbs.proofs.Jumps.{size-micro, size-macro}
 use Rattle.prepare.specs.Arrays.{OneTree, entryAt, depthsOf}
-use Rattle.prepare.proofs.Lent.{wiped}
-use Rattle.prepare.proofs.Lists.{drop-map, rows-more, count-small, keep-next, keep-same}
 use Rattle.prepare.proofs.Preorder.{Holds, small, order-many, holds-at}
 use Rattle.prepare.proofs.Roots.{Ended, macro-none, root-next, root-none, ended-same, ended-group}
 
@@ -75,7 +76,7 @@ module _ {ps : List ℕ} (t : OneTree ps) {old : List ℕ} {i at : ℕ} {cells :
 
     pub groups-room : at + 3 ≤ 3 * n
     unfolding groupWords
-    groups-room = omega (arith, g .words .size, rows-length (groupWords groupLimit ps) 3 (λ x. refl) (rootsWithin groupLimit ps i), count-small (groupRoot groupLimit ps) (order ps) i)
+    groups-room = omega (arith, g .words .size, rows-length (groupWords groupLimit ps) 3 (λ x. refl) (rootsWithin groupLimit ps i), keep-few (groupRoot groupLimit ps) (order ps) i)
 
     -- the depths from there on are those of the group, and of what stands behind it
     pub group-depths : (deep : List ℕ) → deep ≡ depthsOf ps → drop i deep ≡ depth ps v ∷ (levels (suc (depth ps v)) (under ps v) ++ map (depth ps) (drop (position ps v + size ps v) (order ps)))

@@ -8,11 +8,11 @@ use lib.ListN.{length, set, take, length-append}
 use lib.Seq.{take-suc-set, take-set-le, take-all}
 use Rattle.base.specs.Limits.{groupLimit, microMark}
 use Rattle.base.specs.Lists.{keep}
+use Rattle.base.proofs.Keeping.{keep-few, keep-next, keep-same}
 use Rattle.tree.specs.Forest.{order}
 use Rattle.table.specs.Groups.{micro, jumpNode, jumpNodes, microKind, kind}
 use Rattle.climbs.proofs.Jumps.{jump-not, macro-kind}
 use Rattle.prepare.specs.Arrays.{OneTree, entryAt}
-use Rattle.prepare.proofs.Lists.{count-small, keep-next, keep-same}
 use Rattle.prepare.proofs.Preorder.{Holds, small, order-many, holds-at}
 use Rattle.prepare.proofs.kinds.Turns.{jumpsWithin}
 
@@ -41,7 +41,7 @@ module _ {ps : List ℕ} (t : OneTree ps) (i : ℕ) where
     inner = omega (arith, order-many t)
 
     few-before : length (jumpsWithin groupLimit ps i) ≤ i
-    few-before = count-small (jumpNode groupLimit ps) (order ps) i
+    few-before = keep-few (jumpNode groupLimit ps) (order ps) i
 
     -- KIND tells micro entries from macro ones, and counts the jump entries before a macro one
     module _ (k : ℕ) (e : k ≡ kind groupLimit ps v) where

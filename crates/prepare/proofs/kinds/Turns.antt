@@ -15,7 +15,7 @@ use Rattle.base.specs.Limits.{mostEntries, groupLimit, microMark}
 use Rattle.base.specs.Lists.{below, keep, every}
 use Rattle.base.proofs.Lists.{clash}
 use Rattle.base.proofs.Counts.{one, times}
-use Rattle.base.proofs.Keeping.{every-true, every-false}
+use Rattle.base.proofs.Keeping.{every-true, every-false, keep-few, keep-count}
 use Rattle.tree.specs.Parents.{topMark, parent, children}
 use Rattle.tree.specs.Forest.{size, order, position}
 use Rattle.tree.specs.Level.{Ancestor}
@@ -27,7 +27,6 @@ use Rattle.table.specs.Groups.{micro, groupRoot, groupRoots, jumpNode, jumpNode
 use Rattle.climbs.proofs.Jumps.{size-micro, size-macro, jump-parts, jump-is, jump-not, macro-up, micro-down, macro-kind}
 use Rattle.climbs.proofs.Groups.{rootsWithin, Grouped, grouped-under, root-micro}
 use Rattle.prepare.specs.Arrays.{OneTree, entryAt}
-use Rattle.prepare.proofs.Lists.{count-small, count-more}
 use Rattle.prepare.proofs.Preorder.{Holds, small, order-many, entries-some, holds-at, holds-of}
 use Rattle.prepare.proofs.Roots.{Ended, macro-none, root-next, root-none, in-family, ended-same, ended-root}
 use Rattle.prepare.proofs.spread.Writes.{Written, written-none, written-more, written-all}
@@ -162,7 +161,7 @@ module _ {ps : List ℕ} (t : OneTree ps) {L i groups jumps root end last : ℕ}
     -- a micro entry changes no jump entries
     module _ (m : micro L ps v ≡ true) where
       same-jumps : length (jumpsWithin L ps (i + 1)) ≡ length (jumpsWithin L ps i)
-      same-jumps = count-more (jumpNode L ps) (order ps) i ho ∙ rw (jump-not L ps v m) (omega arith)
+      same-jumps = keep-count (jumpNode L ps) (order ps) i ho ∙ rw (jump-not L ps v m) (omega arith)
 
       same-last : micro L ps (entryAt ps 0) ≡ false → Dec (0 < i) → LastMacro ps L (i + 1) last
       same-last e (no b) = let z : i ≡ 0 = omega arith in clash (sym e ∙ ap (λ j. micro L ps (entryAt ps j)) (sym z) ∙ m)
@@ -183,7 +182,7 @@ module _ {ps : List ℕ} (t : OneTree ps) {L i groups jumps root end last : ℕ}
           group = record { starts = e; ends = omega arith };
           low = omega arith;
           high = omega (arith, interval ps little (t .tree) v v (here .inside) (here .inside) .0 (ancestor-self ps little (t .tree) v (here .inside)) .1);
-          groups-are = rw (count-more (groupRoot L ps) (order ps) i ho, e) (omega (arith, s .groups-are));
+          groups-are = rw (keep-count (groupRoot L ps) (order ps) i ho, e) (omega (arith, s .groups-are));
           ended = rw q (ended-root t L i end b (s .ended));
         }
 
@@ -195,7 +194,7 @@ module _ {ps : List ℕ} (t : OneTree ps) {L i groups jumps root end last : ℕ}
           group = o;
           low = omega arith;
           high = b;
-          groups-are = rw (count-more (groupRoot L ps) (order ps) i ho, e) (omega (arith, s .groups-are));
+          groups-are = rw (keep-count (groupRoot L ps) (order ps) i ho, e) (omega (arith, s .groups-are));
           ended = ended-same t L i end e (s .ended);
         }
 
@@ -217,7 +216,7 @@ module _ {ps : List ℕ} (t : OneTree ps) {L i groups jumps root end last : ℕ}
       open-some = omega (arith, numbered)
 
       pub open-few : groups₁ ≤ i + 1
-      open-few = omega (arith, o .groups-are, count-small (groupRoot L ps) (order ps) (i + 1))
+      open-few = omega (arith, o .groups-are, keep-few (groupRoot L ps) (order ps) (i + 1))
 
       inner : micro L ps v ≡ true
       inner = micro-down ps little (t .tree) L r v under (root-micro L ps r (o .group .starts))
@@ -243,7 +242,7 @@ module _ {ps : List ℕ} (t : OneTree ps) {L i groups jumps root end last : ℕ}
       pub kinds-macro : (w x : ℕ) → w ≡ v → x ≡ length (jumpsWithin L ps i) → KindsBefore ps L (i + 1) groups x root end i (set cells w x)
       unfolding kind
       kinds-macro w x e q = record {
-        groups-are = rw (count-more (groupRoot L ps) (order ps) i ho, macro-none L ps v m) (omega (arith, s .groups-are));
+        groups-are = rw (keep-count (groupRoot L ps) (order ps) i ho, macro-none L ps v m) (omega (arith, s .groups-are));
         jumps-are = q;
         last-in = omega arith;
         ended = ended-same t L i end (macro-none L ps v m) (s .ended);
@@ -254,7 +253,7 @@ module _ {ps : List ℕ} (t : OneTree ps) {L i groups jumps root end last : ℕ}
       }
 
       before-last : LastMacro ps L i last → length (jumpsWithin L ps i) ≡ jumps + one (jumpNode L ps (entryAt ps last))
-      before-last o = o .run ∙ count-more (jumpNode L ps) (order ps) last (omega (arith, o .before, ho)) ∙ omega (arith, s .jumps-are)
+      before-last o = o .run ∙ keep-count (jumpNode L ps) (order ps) last (omega (arith, o .before, ho)) ∙ omega (arith, s .jumps-are)
 
       -- past the family of the last one, or in it
       pub jumps-past : last + size ps (entryAt ps last) ≤ i → jumps + 1 ≡ length (jumpsWithin L ps i)
@@ -294,7 +293,7 @@ module _ {ps : List ℕ} (t : OneTree ps) {L i groups jumps root end last : ℕ}
         let o = s .lasting e (omega (arith, entries-some t)) in
         let low = holds-at t last (omega (arith, o .before)) in
         let b : last + size ps (entryAt ps last) ≤ i = omega (arith, low .place, family-room ps little (t .tree) (entryAt ps last) (low .inside)) in
-        let q : length (jumpsWithin L ps i) ≡ jumps + 1 = o .run ∙ count-more (jumpNode L ps) (order ps) last (omega (arith, low .low, order-many t)) ∙ rw (jump-alone t L last i (low .low) b (o .macro) (o .quiet)) (omega (arith, s .jumps-are)) in
+        let q : length (jumpsWithin L ps i) ≡ jumps + 1 = o .run ∙ keep-count (jumpNode L ps) (order ps) last (omega (arith, low .low, order-many t)) ∙ rw (jump-alone t L last i (low .low) b (o .macro) (o .quiet)) (omega (arith, s .jumps-are)) in
         sym q ∙ ap (λ l. length (keep (jumpNode L ps) l)) whole
 
     pub kinds-end : cells ≡ below (length ps) (kind L ps)

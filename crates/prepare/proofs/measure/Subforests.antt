@@ -1,47 +1,27 @@
 -- SIZE, HEIGHT and LONG by position, from ABOVE: what hangs below an entry, of the positions from one on. Assumes nothing.
-use mathlib.Core.Path.{_≡_, refl, sym, ap, _∙_}
-use mathlib.Core.List.{List, [], _∷_, _++_, append-assoc}
-use mathlib.Core.Bool.{Bool, true}
+use mathlib.Core.Path.{_≡_, sym, ap, _∙_}
+use mathlib.Core.List.{List, [], _∷_, _++_}
+use mathlib.Core.Bool.{Bool}
 use mathlib.Core.Option.{some, Option·elim}
 use Prim.Native.Nat.{ℕ, suc, _+_, _≤_, _<_}
 use native.Mathlib.Omega.{arith}
 use native.Mathlib.Decide.{ℕ-discrete, decLe}
-use lib.ListN.{length, take, drop}
-use lib.Seq.{split-at}
+use lib.ListN.{length}
 use lib.Dec.{leb}
 use borrow.Author.Tests.{le-leb, lt-leb}
 use Rattle.base.specs.Limits.{mostEntries}
 use Rattle.base.specs.Lists.{keep, place}
-use Rattle.base.proofs.Counts.{times}
-use Rattle.base.proofs.Places.{times-same, place-stands}
-use Rattle.base.proofs.Keeping.{keep-append, keep-none}
+use Rattle.base.proofs.Keeping.{keep-append, keep-none, keep-alike, keep-all}
 use Rattle.tree.specs.Parents.{topMark, word, parent, children}
 use Rattle.tree.specs.Forest.{Forest, empty, node, plant, forestSize, forestHeight, tallest, under, height, position}
 use Rattle.tree.proofs.Climbing.{parent-some, parent-in}
 use Rattle.tree.proofs.OneTree.{tree-meets}
-use Rattle.tree.proofs.Forests.{under-eq, child-of, of-child}
+use Rattle.tree.proofs.Forests.{under-eq, child-of}
 use Rattle.tree.proofs.Positions.{at-position, position-in}
-use Rattle.tree.proofs.Intervals.{family-room, parent-before, child-at}
+use Rattle.tree.proofs.Intervals.{family-room, parent-before}
+use Rattle.tree.proofs.Siblings.{Child, child, size-join, height-most}
 use Rattle.prepare.specs.Arrays.{OneTree, entryAt}
 use Rattle.prepare.proofs.Preorder.{Over, Words, small, holds-at}
-
--- what passes two tests that agree, and a test that all pass
-keep-alike : (s t : ℕ → Bool) (l : List ℕ) → ((x : ℕ) → 1 ≤ times x l → s x ≡ t x) → keep s l ≡ keep t l
-unfolding keep times
-keep-alike s t [] h = refl
-keep-alike s t (y ∷ l) h = rw (h y (omega (arith, times-same y y l refl)), keep-alike s t l (λ x k. h x (omega arith)))
-
-keep-all : (t : ℕ → Bool) (l : List ℕ) → ((x : ℕ) → 1 ≤ times x l → t x ≡ true) → keep t l ≡ l
-unfolding keep times
-keep-all t [] h = refl
-keep-all t (y ∷ l) h = rw (h y (omega (arith, times-same y y l refl))) (ap (_∷_ y) (keep-all t l (λ x k. h x (omega arith))))
-
--- a list at one that stands in it
-parted : (x : ℕ) (l : List ℕ) → 1 ≤ times x l → (a : List ℕ) × (b : List ℕ) × (l ≡ a ++ (x ∷ b))
-parted x l h =
-    let i = place x l in
-    let (b, e) = place-stands x l h in
-    (take i l, drop (suc i) l, split-at l i 0 b ∙ ap (λ y. take i l ++ (y ∷ drop (suc i) l)) e)
 
 -- a number that is not i is at least i just where it is more
 leb-next : (i x : ℕ) → (x ≡ i → ⊥) → leb i x ≡ leb (suc i) x
@@ -51,18 +31,6 @@ leb-next i x o = go (decLe i x)
     go (yes l) = le-leb i x l ∙ sym (le-leb (suc i) x (omega arith))
     go (no l) = lt-leb i x (omega arith) ∙ sym (lt-leb (suc i) x (omega arith))
 
--- the entries of two first levels joined
-size-join : (f : ℕ → Forest) (vs ws : List ℕ) → forestSize (plant f (vs ++ ws)) ≡ forestSize (plant f vs) + forestSize (plant f ws)
-unfolding forestSize plant
-size-join f [] ws = omega arith
-size-join f (v ∷ vs) ws = omega (arith, size-join f vs ws)
-
--- a forest has no more levels than entries
-height-most : (f : Forest) → forestHeight f ≤ forestSize f
-unfolding forestHeight forestSize
-height-most empty = omega arith
-height-most (node v b later) = omega (arith, height-most b, height-most later)
-
 -- the children of v that stand at position i or behind it, and what hangs below v with them
 abbrev late : List ℕ → ℕ → ℕ → List ℕ
 late ps i v = keep (λ c. leb i (position ps c)) (children ps v)
@@ -70,33 +38,7 @@ late ps i v = keep (λ c. leb i (position ps c)) (children ps v)
 unfoldable pub hanging : List ℕ → ℕ → ℕ → Forest
 hanging ps i v = plant (under ps) (late ps i v)
 
--- a child among the children of p: those before it stand earlier, and those behind it later
-record Child (ps : List ℕ) (c p : ℕ) : Type 0 where
-  before : List ℕ
-  after : List ℕ
-  children-are : children ps p ≡ before ++ (c ∷ after)
-  earlier : (x : ℕ) → 1 ≤ times x before → position ps x < position ps c
-  later : (x : ℕ) → 1 ≤ times x after → position ps c < position ps x
-
 module _ {ps : List ℕ} (t : OneTree ps) where
-  -- of two children the one that is listed first stands earlier
-  elder : (v : ℕ) (a b e : List ℕ) (x y : ℕ) → v < length ps → children ps v ≡ a ++ (x ∷ (b ++ (y ∷ e))) → position ps x < position ps y
-  unfolding forestSize plant
-  elder v a b e x y h q =
-      omega (arith, child-at ps (small t) (t .tree) v a x (b ++ (y ∷ e)) h q, child-at ps (small t) (t .tree) v (a ++ (x ∷ b)) y e h (q ∙ sym (append-assoc a (x ∷ b) (y ∷ e))), size-join (under ps) a (x ∷ b))
-
-  child : (c p : ℕ) → parent ps c ≡ some p → Child ps c p
-  child c p e =
-      let (hc, hp, w) = parent-some ps c p e in
-      let (a, b, q) = parted c (children ps p) (omega (arith, rw w at (of-child ps (small t) c hc))) in
-      record {
-        before = a;
-        after = b;
-        children-are = q;
-        earlier = λ x k. let (m, r, z) = parted x a k in elder p m r b x c hp (q ∙ ap (λ l. l ++ (c ∷ b)) z ∙ append-assoc m (x ∷ r) (c ∷ b));
-        later = λ x k. let (m, r, z) = parted x b k in elder p a m r c x hp (q ∙ ap (λ l. a ++ (c ∷ l)) z);
-      }
-
   under-is : (v : ℕ) → v < length ps → under ps v ≡ plant (under ps) (children ps v)
   under-is v h = under-eq ps (small t) v h (tree-meets ps (small t) (t .tree) v h)
 
@@ -116,7 +58,7 @@ module _ {ps : List ℕ} (t : OneTree ps) where
 
   module _ (c p : ℕ) (e : parent ps c ≡ some p) where
     abbrev k : Child ps c p
-    k = child c p e
+    k = child ps (small t) (t .tree) c p e
 
     -- the children from the position of c on are c and those behind it, and from the next position on those behind it
     late-at : (i : ℕ) → position ps c ≤ i → i ≤ suc (position ps c) → late ps i p ≡ keep (λ x. leb i (position ps x)) (c ∷ []) ++ k .after

@@ -10,13 +10,12 @@ use lib.ListN.{length, getD, set, replicate, length-replicate, getD-replicate}
 use lib.Seq.{getD-set-same, getD-set-other}
 use Rattle.base.specs.Limits.{mostEntries}
 use Rattle.base.specs.Lists.{view, put}
-use Rattle.base.proofs.Puts.{put-view}
+use Rattle.base.proofs.Puts.{put-view, stays}
 use Rattle.base.proofs.Views.{view-at}
 use Rattle.tree.specs.Parents.{topMark}
 use Rattle.tree.specs.Forest.{forestSize, forestHeight, tallest, size, height}
 use Rattle.prepare.specs.Arrays.{OneTree, abovePosition, longPosition}
 use Rattle.prepare.specs.Stages.{Linked, Measured}
-use Rattle.prepare.proofs.Lent.{stays}
 use Rattle.prepare.proofs.Preorder.{Over, over-at, region-words, words-region}
 use Rattle.prepare.proofs.Space.{tree-of, linked-put, linked-set}
 use Rattle.prepare.proofs.measure.Subforests.{Hung, sizeOf, heightOf, longOf, hung-none, hung-all, hung-more, sum-is, sum-fits, rise-fits, taller, shorter}

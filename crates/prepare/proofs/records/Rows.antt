@@ -10,12 +10,12 @@ use lib.ListN.{length, getD, take, replicate, length-replicate, length-take}
 use lib.Seq.{take-all, take-suc}
 use Rattle.base.specs.Lists.{view, put, padded}
 use Rattle.base.specs.Limits.{groupLimit, jumpRoom, recordWords, tableWords}
-use Rattle.base.proofs.Lists.{below-at}
+use Rattle.base.proofs.Lists.{below-at, drop-zeros}
 use Rattle.base.proofs.Places.{stands}
 use Rattle.base.proofs.Joined.{padded-length}
 use Rattle.base.proofs.Keeping.{keep-in}
-use Rattle.base.proofs.Puts.{lent-back, put-length, put-view, put-inside, put-none, put-more, put-over}
-use Rattle.base.proofs.Rows.{rows-length}
+use Rattle.base.proofs.Puts.{lent-back, put-length, put-view, put-inside, put-none, put-more, put-over, lent, came-filled, stays}
+use Rattle.base.proofs.Rows.{rows-length, rows-more}
 use Rattle.base.proofs.Views.{view-at}
 use Rattle.tree.specs.Parents.{depth}
 use Rattle.tree.specs.Forest.{order}
@@ -27,8 +27,6 @@ use Rattle.climbs.proofs.Jumps.{jumps-few}
 use Rattle.climbs.proofs.Words.{jump-wide, jumps-length}
 use Rattle.prepare.specs.Arrays.{OneTree}
 use Rattle.prepare.specs.Stages.{Sectioned, Reached}
-use Rattle.prepare.proofs.Lent.{lent, came-filled, stays}
-use Rattle.prepare.proofs.Lists.{rows-more, drop-zeros}
 use Rattle.prepare.proofs.Preorder.{small}
 use Rattle.prepare.proofs.sections.Whole.{sectioned-put, whole-table}
 

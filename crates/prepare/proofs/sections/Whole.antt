@@ -9,7 +9,7 @@ use Rattle.base.specs.Lists.{below, view, put}
 use Rattle.base.specs.Limits.{groupLimit, jumpRoom, recordWords, tableWords}
 use Rattle.base.proofs.Lists.{each-length}
 use Rattle.base.proofs.Joined.{padded-length}
-use Rattle.base.proofs.Puts.{put-length, put-view, view-join, view-all}
+use Rattle.base.proofs.Puts.{put-length, put-view, view-join, view-all, Apart, stays}
 use Rattle.tree.specs.Parents.{depth}
 use Rattle.tree.specs.Forest.{size, order, position}
 use Rattle.table.specs.Ladders.{ladPos}
@@ -20,7 +20,6 @@ use Rattle.climbs.proofs.Groups.{groups-few}
 use Rattle.climbs.proofs.Words.{groups-length}
 use Rattle.prepare.specs.Arrays.{OneTree, kindsOf}
 use Rattle.prepare.specs.Stages.{Familied, Laddered, Sectioned}
-use Rattle.prepare.proofs.Lent.{Apart, stays}
 use Rattle.prepare.proofs.Preorder.{small, order-many}
 
 -- two parts side by side

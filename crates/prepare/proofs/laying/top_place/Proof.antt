@@ -5,11 +5,11 @@ use native.Mathlib.Omega.{arith}
 use borrow.Author.Needs.{needs}
 use borrow.Rule.Slice.PartMut.{mid-len}
 use lib.ListN.{length}
+use Rattle.base.proofs.Puts.{lent}
 use Rattle.tree.specs.Parents.{depth}
 use Rattle.tree.specs.Forest.{height}
 use Rattle.climbs.proofs.Ladders.{rise}
 use Rattle.prepare.specs.Arrays.{entryAt}
-use Rattle.prepare.proofs.Lent.{lent}
 use Rattle.prepare.proofs.Preorder.{region-words}
 use Rattle.prepare.proofs.laying.Rungs.{risen-by}
 use Rattle.prepare.proofs.laying.Tops.{tree-in}

@@ -6,7 +6,7 @@ use borrow.Author.Needs.{needs}
 use borrow.Rule.Slice.PartMut.{putMid, same-len-mid}
 use lib.ListN.{length, replicate}
 use Rattle.base.specs.Lists.{put}
-use Rattle.prepare.proofs.Lent.{came-filled}
+use Rattle.base.proofs.Puts.{came-filled}
 use Rattle.prepare.proofs.measure.alone.Statement.{statement}
 use Rattle.prepare.proofs.measure.alone.Tie as tie
 

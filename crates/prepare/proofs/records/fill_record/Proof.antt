@@ -5,9 +5,8 @@ use native.Mathlib.Omega.{arith}
 use borrow.Author.Needs.{needs}
 use lib.ListN.{length}
 use Rattle.base.specs.Limits.{groupLimit}
-use Rattle.base.proofs.Puts.{lent-back}
+use Rattle.base.proofs.Puts.{lent-back, lent}
 use Rattle.climbs.proofs.Words.{jump-wide}
-use Rattle.prepare.proofs.Lent.{lent}
 use Rattle.prepare.proofs.records.Rows.{depth-word}
 use Rattle.prepare.proofs.records.fill_record.Statement.{statement}
 use Rattle.prepare.proofs.records.fill_record.Tie as tie

@@ -6,8 +6,8 @@ use borrow.Author.Needs.{needs}
 use borrow.Rule.Slice.PartMut.{mid-len, same-len-mid, putMid, midOf}
 use lib.ListN.{length}
 use Rattle.base.specs.Limits.{groupLimit}
+use Rattle.base.proofs.Puts.{lent}
 use Rattle.table.specs.Groups.{jumpNodes}
-use Rattle.prepare.proofs.Lent.{lent}
 use Rattle.prepare.proofs.Space.{tree-of}
 use Rattle.prepare.proofs.records.Rows.{nodes-few, nodes-lent, zeros-put, ready, jumps-laid}
 use Rattle.prepare.proofs.records.jump_section.Statement.{statement}

@@ -5,7 +5,7 @@ use native.Mathlib.Omega.{arith}
 use borrow.Author.Needs.{needs}
 use borrow.Rule.Slice.PartMut.{mid-len}
 use lib.ListN.{length}
-use Rattle.prepare.proofs.Lent.{came-back}
+use Rattle.base.proofs.Puts.{came-back}
 use Rattle.prepare.proofs.sections.ladder_section.Statement.{statement}
 use Rattle.prepare.proofs.sections.ladder_section.Tie as tie
 
