@@ -9,7 +9,7 @@ use native.Mathlib.Nat.{two-pow-succ, pow-le-pow-right}
 use borrow.Author.Count.{below-more}
 use lib.ListN.{length, getD, set, length-set, replicate, length-replicate, getD-replicate}
 use lib.Seq.{getD-set-same, getD-set-other, ext-getD}
-use Rattle.base.specs.Limits.{mostEntries}
+use Rattle.base.specs.Limits.{mostEntries, groupLimit}
 use Rattle.base.specs.Lists.{below}
 use Rattle.base.proofs.Lists.{below-at, each-length}
 use Rattle.base.proofs.Joined.{padded-length, padded-in}
@@ -22,14 +22,11 @@ use Rattle.table.specs.Groups.{jumpRecord}
 use Rattle.table.specs.Table.{ladderCells}
 use Rattle.climbs.proofs.Ladders.{ladpos-in, lemma-5}
 use Rattle.climbs.proofs.Room.{ladders-fit}
+use Rattle.climbs.proofs.Words.{jump-wide}
 use Rattle.prepare.specs.Arrays.{OneTree}
 use Rattle.prepare.proofs.Preorder.{small}
 
 -- the words of a record
-record-length : (ps : List ℕ) (v : ℕ) → length (jumpRecord ps v) ≡ 21
-unfolding jumpRecord
-record-length ps v = ap suc (each-length 20 0 (λ e. Option·getD (up ps (2 ^ e) v) 0))
-
 record-first : (ps : List ℕ) (v : ℕ) → getD (jumpRecord ps v) 0 0 ≡ depth ps v
 unfolding jumpRecord
 record-first ps v = refl
@@ -42,7 +39,6 @@ record-next ps v k h = below-at 20 (λ e. Option·getD (up ps (2 ^ e) v) 0) 0 k 
 pub record RecordBefore (ps : List ℕ) (v : ℕ) (r : List ℕ) (w s t e : ℕ) : Type 0 where
   pub started : 1 ≤ e
   pub far : t ≡ 2 ^ (e - 1)
-  pub strict : 1 ≤ s
   pub less : s ≤ t
   pub near : 2 * s ≤ t + 1
   pub reached : up ps (t - s) v ≡ some w
@@ -59,7 +55,6 @@ module _ {ps : List ℕ} (t : OneTree ps) (v : ℕ) (hv : v < length ps) where
   record-none r d e q = record {
     started = omega arith;
     far = refl;
-    strict = omega arith;
     less = omega arith;
     near = omega arith;
     reached = entry-in ps v hv;
@@ -71,11 +66,11 @@ module _ {ps : List ℕ} (t : OneTree ps) (v : ℕ) (hv : v < length ps) where
   module _ {r : List ℕ} {w s far e : ℕ} (d : RecordBefore ps v r w s far e) where
     -- all of them
     pub record-end : 21 ≤ e → r ≡ jumpRecord ps v
-    record-end h = ext-getD 0 r (jumpRecord ps v) (d .room ∙ sym (record-length ps v)) (λ k b. d .words k (omega (arith, d .room)))
+    record-end h = ext-getD 0 r (jumpRecord ps v) (d .room ∙ sym (jump-wide groupLimit ps v)) (λ k b. d .words k (omega (arith, d .room)))
 
     -- no ancestor is as far up
     pub record-stop : depth ps v < far → r ≡ jumpRecord ps v
-    record-stop h = ext-getD 0 r (jumpRecord ps v) (d .room ∙ sym (record-length ps v)) (λ k b. go k (omega (arith, d .room)) (decLt k e))
+    record-stop h = ext-getD 0 r (jumpRecord ps v) (d .room ∙ sym (jump-wide groupLimit ps v)) (λ k b. go k (omega (arith, d .room)) (decLt k e))
       where
         past : (k : ℕ) → e ≤ k → k < 21 → getD (jumpRecord ps v) k 0 ≡ 0
         past zero b l = absurd (omega (arith, d .started))
@@ -151,7 +146,6 @@ module _ {ps : List ℕ} (t : OneTree ps) (v : ℕ) (hv : v < length ps) where
               record {
                 started = omega arith;
                 far = far-next (e - 1) z;
-                strict = omega (arith, d .strict, d .less);
                 less = omega arith;
                 near = omega arith;
                 reached = ap (λ k. up ps k v) y ∙ x-up;

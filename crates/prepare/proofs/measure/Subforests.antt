@@ -1,4 +1,4 @@
--- SIZE, HEIGHT and LONG by position, from ABOVE: what hangs below an entry, of the positions from one on. Assumes nothing.
+-- SIZE, HEIGHT and LONG by position, from ABOVE: what is below an entry, with its children from a position on. Assumes nothing.
 use mathlib.Core.Path.{_≡_, sym, ap, _∙_}
 use mathlib.Core.List.{List, [], _∷_, _++_}
 use mathlib.Core.Bool.{Bool}
@@ -31,26 +31,26 @@ leb-next i x o = go (decLe i x)
     go (yes l) = le-leb i x l ∙ sym (le-leb (suc i) x (omega arith))
     go (no l) = lt-leb i x (omega arith) ∙ sym (lt-leb (suc i) x (omega arith))
 
--- the children of v that stand at position i or behind it, and what hangs below v with them
+-- the children of v that stand at position i or behind it, and what is below v with them alone
 abbrev late : List ℕ → ℕ → ℕ → List ℕ
 late ps i v = keep (λ c. leb i (position ps c)) (children ps v)
 
-unfoldable pub hanging : List ℕ → ℕ → ℕ → Forest
-hanging ps i v = plant (under ps) (late ps i v)
+unfoldable pub underFrom : List ℕ → ℕ → ℕ → Forest
+underFrom ps i v = plant (under ps) (late ps i v)
 
 module _ {ps : List ℕ} (t : OneTree ps) where
   under-is : (v : ℕ) → v < length ps → under ps v ≡ plant (under ps) (children ps v)
   under-is v h = under-eq ps (small t) v h (tree-meets ps (small t) (t .tree) v h)
 
-  -- behind all positions nothing hangs, and from the position behind v on all that is below it
-  hanging-none : (v : ℕ) → hanging ps (length ps) v ≡ empty
-  unfolding hanging plant
-  hanging-none v =
+  -- behind all positions that is nothing, and from the position behind v on all that is below it
+  part-none : (v : ℕ) → underFrom ps (length ps) v ≡ empty
+  unfolding underFrom plant
+  part-none v =
       ap (plant (under ps)) (keep-none _ (children ps v) (λ x k. lt-leb (length ps) (position ps x) (position-in ps (small t) (t .tree) x (child-of ps (small t) v x k .0))))
 
-  hanging-all : (i v : ℕ) → v < length ps → i ≤ suc (position ps v) → hanging ps i v ≡ under ps v
-  unfolding hanging
-  hanging-all i v h b =
+  part-all : (i v : ℕ) → v < length ps → i ≤ suc (position ps v) → underFrom ps i v ≡ under ps v
+  unfolding underFrom
+  part-all i v h b =
       ap (plant (under ps)) (keep-all _ (children ps v) (λ x k.
       let (g, w) = child-of ps (small t) v x k in
       le-leb i (position ps x) (omega (arith, parent-before ps (small t) (t .tree) x v (parent-in ps x g (omega arith) ∙ ap some w)))))
@@ -78,29 +78,29 @@ module _ {ps : List ℕ} (t : OneTree ps) where
     unfolding keep
     late-next = late-at (suc (position ps c)) (omega arith) (omega arith) ∙ rw (lt-leb (suc (position ps c)) (position ps c) (omega arith))
 
-    -- so c hangs below its parent before what hangs there from the next position on
-    hanging-more : hanging ps (position ps c) p ≡ node c (under ps c) (hanging ps (suc (position ps c)) p)
-    unfolding hanging plant
-    hanging-more = ap (plant (under ps)) late-here ∙ ap (λ l. node c (under ps c) (plant (under ps) l)) (sym late-next)
+    -- so c is below its parent before what is there from the next position on
+    part-more : underFrom ps (position ps c) p ≡ node c (under ps c) (underFrom ps (suc (position ps c)) p)
+    unfolding underFrom plant
+    part-more = ap (plant (under ps)) late-here ∙ ap (λ l. node c (under ps c) (plant (under ps) l)) (sym late-next)
 
-    hanging-fits : forestSize (hanging ps (position ps c) p) ≤ forestSize (under ps p)
-    unfolding hanging
-    hanging-fits =
+    part-fits : forestSize (underFrom ps (position ps c) p) ≤ forestSize (under ps p)
+    unfolding underFrom
+    part-fits =
         omega (arith, ap (λ l. forestSize (plant (under ps) l)) late-here, size-join (under ps) (k .before) (c ∷ k .after), ap forestSize (under-is p (parent-some ps c p e .1) ∙ ap (plant (under ps)) (k .children-are)))
 
     -- and below no other entry
-    hanging-same : (v : ℕ) → (v ≡ p → ⊥) → hanging ps (position ps c) v ≡ hanging ps (suc (position ps c)) v
-    unfolding hanging
-    hanging-same v o =
+    part-same : (v : ℕ) → (v ≡ p → ⊥) → underFrom ps (position ps c) v ≡ underFrom ps (suc (position ps c)) v
+    unfolding underFrom
+    part-same v o =
         ap (plant (under ps)) (keep-alike _ _ (children ps v) (λ x b.
         let (h, w) = child-of ps (small t) v x b in
         leb-next (position ps c) (position ps x) (λ q. o (sym w ∙ ap (word ps) (sym (at-position ps (small t) (t .tree) x h) ∙ ap (entryAt ps) q ∙ at-position ps (small t) (t .tree) c (parent-some ps c p e .0)) ∙ parent-some ps c p e .2))))
 
--- what a function says of what hangs below each entry from position i on, at the entry's position
-abbrev pub Hung : List ℕ → (Forest → ℕ) → ℕ → (ℕ → ℕ) → Type 0
-Hung ps g i read = Words ps (λ v. g (hanging ps i v)) read
+-- what a function says of what is below each entry from position i on, at the entry's position
+abbrev pub WordsFrom : List ℕ → (Forest → ℕ) → ℕ → (ℕ → ℕ) → Type 0
+WordsFrom ps g i read = Words ps (λ v. g (underFrom ps i v)) read
 
--- SIZE, HEIGHT and LONG of an entry, of what hangs below it
+-- SIZE, HEIGHT and LONG of an entry, of what is below it
 abbrev pub sizeOf : Forest → ℕ
 sizeOf f = suc (forestSize f)
 
@@ -111,13 +111,13 @@ abbrev pub longOf : List ℕ → Forest → ℕ
 longOf ps f = Option·elim (tallest f) topMark (position ps)
 
 module _ {ps : List ℕ} (t : OneTree ps) where
-  -- at the start nothing hangs below any entry, and once the positions behind one are done all does that is below it
+  -- at the start nothing is below any entry, and once the positions behind one are done all is
   module _ (g : Forest → ℕ) (read : ℕ → ℕ) where
-    pub hung-none : ((k : ℕ) → k < length ps → read k ≡ g empty) → Hung ps g (length ps) read
-    hung-none e k h = e k h ∙ ap g (sym (hanging-none t (entryAt ps k)))
+    pub words-none : ((k : ℕ) → k < length ps → read k ≡ g empty) → WordsFrom ps g (length ps) read
+    words-none e k h = e k h ∙ ap g (sym (part-none t (entryAt ps k)))
 
-    pub hung-all : (i : ℕ) → Hung ps g i read → (k : ℕ) → i ≤ suc k → k < length ps → read k ≡ g (under ps (entryAt ps k))
-    hung-all i w k b h = let here = holds-at t k h in w k h ∙ ap g (hanging-all t i (entryAt ps k) (here .inside) (omega arith))
+    pub words-all : (i : ℕ) → WordsFrom ps g i read → (k : ℕ) → i ≤ suc k → k < length ps → read k ≡ g (under ps (entryAt ps k))
+    words-all i w k b h = let here = holds-at t k h in w k h ∙ ap g (part-all t i (entryAt ps k) (here .inside) (omega arith))
 
   -- one position further down
   module _ (at over p : ℕ) (h : at < length ps) (o : Over ps at over p) where
@@ -128,37 +128,37 @@ module _ {ps : List ℕ} (t : OneTree ps) where
     c-at = holds-at t at h .place
 
     abbrev grown : Forest
-    grown = node c (under ps c) (hanging ps (suc at) (entryAt ps over))
+    grown = node c (under ps c) (underFrom ps (suc at) (entryAt ps over))
 
-    more : hanging ps at (entryAt ps over) ≡ grown
-    more = rw (o .there .entry) (rw c-at at (hanging-more t c p (o .parent-is)))
+    more : underFrom ps at (entryAt ps over) ≡ grown
+    more = rw (o .there .entry) (rw c-at at (part-more t c p (o .parent-is)))
 
-    same : (k : ℕ) → k < length ps → (k ≡ over → ⊥) → hanging ps at (entryAt ps k) ≡ hanging ps (suc at) (entryAt ps k)
-    same k l q = rw c-at at (hanging-same t c p (o .parent-is) (entryAt ps k) (λ z. q (sym (holds-at t k l .place) ∙ ap (position ps) z ∙ o .there .place)))
+    same : (k : ℕ) → k < length ps → (k ≡ over → ⊥) → underFrom ps at (entryAt ps k) ≡ underFrom ps (suc at) (entryAt ps k)
+    same k l q = rw c-at at (part-same t c p (o .parent-is) (entryAt ps k) (λ z. q (sym (holds-at t k l .place) ∙ ap (position ps) z ∙ o .there .place)))
 
     -- the word of the entry above is that of one entry more below it, and the others stay
-    pub hung-more : (g : Forest → ℕ) (read now : ℕ → ℕ) → Hung ps g (suc at) read → ((k : ℕ) → k < length ps → (k ≡ over → ⊥) → now k ≡ read k) → now over ≡ g grown → Hung ps g at now
-    hung-more g read now w others here k l = go (ℕ-discrete k over)
+    pub words-more : (g : Forest → ℕ) (read now : ℕ → ℕ) → WordsFrom ps g (suc at) read → ((k : ℕ) → k < length ps → (k ≡ over → ⊥) → now k ≡ read k) → now over ≡ g grown → WordsFrom ps g at now
+    words-more g read now w others here k l = go (ℕ-discrete k over)
       where
-        go : Dec (k ≡ over) → now k ≡ g (hanging ps at (entryAt ps k))
+        go : Dec (k ≡ over) → now k ≡ g (underFrom ps at (entryAt ps k))
         go (yes q) = rw q (here ∙ ap g (sym more))
         go (no q) = others k l q ∙ w k l ∙ ap g (sym (same k l q))
 
     -- SIZE: the sum is that of one entry more, and fits
-    module _ (read : ℕ → ℕ) (w : Hung ps sizeOf (suc at) read) where
+    module _ (read : ℕ → ℕ) (w : WordsFrom ps sizeOf (suc at) read) where
       pub sum-is : read over + read at ≡ sizeOf grown
       unfolding forestSize
-      sum-is = omega (arith, w over (o .there .low), hung-all sizeOf read (suc at) w at (omega arith) h)
+      sum-is = omega (arith, w over (o .there .low), words-all sizeOf read (suc at) w at (omega arith) h)
 
       pub sum-fits : read over + read at ≤ mostEntries
       sum-fits =
           let few = t .few in
-          omega (arith, few, sum-is, ap sizeOf more, ap (λ v. forestSize (hanging ps at v)) (o .there .entry), rw c-at at (hanging-fits t c p (o .parent-is)), family-room ps (small t) (t .tree) p (o .there .inside))
+          omega (arith, few, sum-is, ap sizeOf more, ap (λ v. forestSize (underFrom ps at v)) (o .there .entry), rw c-at at (part-fits t c p (o .parent-is)), family-room ps (small t) (t .tree) p (o .there .inside))
 
     -- HEIGHT and LONG: the child is the tallest of those met, the first of them on a tie, or not
-    module _ (read : ℕ → ℕ) (w : Hung ps heightOf (suc at) read) where
+    module _ (read : ℕ → ℕ) (w : WordsFrom ps heightOf (suc at) read) where
       high : read at ≡ height ps c
-      high = hung-all heightOf read (suc at) w at (omega arith) h
+      high = words-all heightOf read (suc at) w at (omega arith) h
 
       pub rise-fits : read at ≤ mostEntries
       rise-fits = let few = t .few in omega (arith, few, high, height-most (under ps c), family-room ps (small t) (t .tree) c (holds-at t at h .inside))
@@ -167,10 +167,10 @@ module _ {ps : List ℕ} (t : OneTree ps) where
       unfolding forestHeight tallest Option·elim
       taller g =
           let z = w over (o .there .low) in
-          (omega (arith, high, z), rw (le-leb (forestHeight (hanging ps (suc at) (entryAt ps over))) (height ps c) (omega (arith, high, z))) (sym c-at))
+          (omega (arith, high, z), rw (le-leb (forestHeight (underFrom ps (suc at) (entryAt ps over))) (height ps c) (omega (arith, high, z))) (sym c-at))
 
-      pub shorter : read at + 1 < read over → (read over ≡ heightOf grown) × (longOf ps (hanging ps (suc at) (entryAt ps over)) ≡ longOf ps grown)
+      pub shorter : read at + 1 < read over → (read over ≡ heightOf grown) × (longOf ps (underFrom ps (suc at) (entryAt ps over)) ≡ longOf ps grown)
       unfolding forestHeight tallest
       shorter g =
           let z = w over (o .there .low) in
-          (omega (arith, high, z), rw (lt-leb (forestHeight (hanging ps (suc at) (entryAt ps over))) (height ps c) (omega (arith, high, z))))
+          (omega (arith, high, z), rw (lt-leb (forestHeight (underFrom ps (suc at) (entryAt ps over))) (height ps c) (omega (arith, high, z))))

@@ -18,14 +18,14 @@ use Rattle.prepare.specs.Arrays.{OneTree, abovePosition, longPosition}
 use Rattle.prepare.specs.Stages.{Linked, Measured}
 use Rattle.prepare.proofs.Preorder.{Over, over-at, region-words, words-region}
 use Rattle.prepare.proofs.Space.{tree-of, linked-put, linked-set}
-use Rattle.prepare.proofs.measure.Subforests.{Hung, sizeOf, heightOf, longOf, hung-none, hung-all, hung-more, sum-is, sum-fits, rise-fits, taller, shorter}
+use Rattle.prepare.proofs.measure.Subforests.{WordsFrom, sizeOf, heightOf, longOf, words-none, words-all, words-more, sum-is, sum-fits, rise-fits, taller, shorter}
 
--- what hangs below each entry from position i on is measured in the space
+-- what is below each entry from position i on is measured in the space
 pub record MeasuredFrom (ps : List ℕ) (i : ℕ) (space : List ℕ) : Type 0 where
   pub linked : Linked ps space
-  pub sums : Hung ps sizeOf i (λ k. getD space (2 * length ps + k) 0)
-  pub highs : Hung ps heightOf i (λ k. getD space (4 * length ps + k) 0)
-  pub longs : Hung ps (longOf ps) i (λ k. getD space (5 * length ps + k) 0)
+  pub sums : WordsFrom ps sizeOf i (λ k. getD space (2 * length ps + k) 0)
+  pub highs : WordsFrom ps heightOf i (λ k. getD space (4 * length ps + k) 0)
+  pub longs : WordsFrom ps (longOf ps) i (λ k. getD space (5 * length ps + k) 0)
 
 pub from-by : {ps space : List ℕ} {i j : ℕ} → i ≡ j → MeasuredFrom ps i space → MeasuredFrom ps j space
 from-by e m = rw e at m
@@ -53,9 +53,9 @@ from-end {ps} {old} d space q =
     let b₂ : 5 * n + length tops ≤ length l₂ = omega (arith, d₂ .walked .room) in
     rw q (record {
       linked = linked-put (5 * n) tops (omega arith) (omega arith) (inl (omega arith)) d₂;
-      sums = hung-none t sizeOf _ (filled-word (2 * n) n 1 _ (stays l₂ (5 * n) tops b₂ (2 * n) n (inl (omega arith)) ∙ stays l₁ (4 * n) ones b₁ (2 * n) n (inl (omega arith)) ∙ put-view old (2 * n) ones b₀ n wide));
-      highs = hung-none t heightOf _ (filled-word (4 * n) n 1 _ (stays l₂ (5 * n) tops b₂ (4 * n) n (inl (omega arith)) ∙ put-view l₁ (4 * n) ones b₁ n wide));
-      longs = hung-none t (longOf ps) _ (filled-word (5 * n) n topMark _ (put-view l₂ (5 * n) tops b₂ n wide-2));
+      sums = words-none t sizeOf _ (filled-word (2 * n) n 1 _ (stays l₂ (5 * n) tops b₂ (2 * n) n (inl (omega arith)) ∙ stays l₁ (4 * n) ones b₁ (2 * n) n (inl (omega arith)) ∙ put-view old (2 * n) ones b₀ n wide));
+      highs = words-none t heightOf _ (filled-word (4 * n) n 1 _ (stays l₂ (5 * n) tops b₂ (4 * n) n (inl (omega arith)) ∙ put-view l₁ (4 * n) ones b₁ n wide));
+      longs = words-none t (longOf ps) _ (filled-word (5 * n) n topMark _ (put-view l₂ (5 * n) tops b₂ n wide-2));
     })
 
 -- at the first position, all
@@ -68,10 +68,10 @@ from-first {ps} {space} i b m =
     record {
       pathed = record {
         linked = m .linked;
-        heights = words-region t (height ps) (4 * n) space (omega arith) (λ k h. hung-all t heightOf _ i (m .highs) k (omega arith) h);
-        longs = words-region t (longPosition ps) (5 * n) space (omega arith) (λ k h. hung-all t (longOf ps) _ i (m .longs) k (omega arith) h);
+        heights = words-region t (height ps) (4 * n) space (omega arith) (λ k h. words-all t heightOf _ i (m .highs) k (omega arith) h);
+        longs = words-region t (longPosition ps) (5 * n) space (omega arith) (λ k h. words-all t (longOf ps) _ i (m .longs) k (omega arith) h);
       };
-      sizes = words-region t (size ps) (2 * n) space (omega arith) (λ k h. hung-all t sizeOf _ i (m .sums) k (omega arith) h);
+      sizes = words-region t (size ps) (2 * n) space (omega arith) (λ k h. words-all t sizeOf _ i (m .sums) k (omega arith) h);
     }
 
 -- one position further down
@@ -110,19 +110,19 @@ module _ {ps space : List ℕ} (at : ℕ) (b : 0 < at) (h : at < length ps) (m :
   linked-now : Linked ps counted
   linked-now = linked-set (2 * n + over) sum (omega arith) (omega (arith, over-low)) (inl (omega (arith, over-low))) (m .linked)
 
-  highs-now : Hung ps heightOf (suc at) (λ k. getD counted (4 * n + k) 0)
+  highs-now : WordsFrom ps heightOf (suc at) (λ k. getD counted (4 * n + k) 0)
   highs-now k l = later (4 * n + k) (omega arith) ∙ m .highs k l
 
-  longs-now : Hung ps (longOf ps) (suc at) (λ k. getD counted (5 * n + k) 0)
+  longs-now : WordsFrom ps (longOf ps) (suc at) (λ k. getD counted (5 * n + k) 0)
   longs-now k l = later (5 * n + k) (omega arith) ∙ m .longs k l
 
   pub rise-small : getD counted (4 * n + at) 0 ≤ mostEntries
   rise-small = rise-fits t at over _ h (above .1) _ highs-now
 
   -- every word of region 2 is right after the sum, in a space that has the same there
-  sums-on : (new : List ℕ) → ((k : ℕ) → k < n → getD new (2 * n + k) 0 ≡ getD counted (2 * n + k) 0) → Hung ps sizeOf at (λ k. getD new (2 * n + k) 0)
+  sums-on : (new : List ℕ) → ((k : ℕ) → k < n → getD new (2 * n + k) 0 ≡ getD counted (2 * n + k) 0) → WordsFrom ps sizeOf at (λ k. getD new (2 * n + k) 0)
   sums-on new same =
-      hung-more t at over _ h (above .1) sizeOf _ _ (m .sums) (λ k l q. same k l ∙ getD-set-other space (2 * n + over) (2 * n + k) sum 0 (λ z. q (omega arith)))
+      words-more t at over _ h (above .1) sizeOf _ _ (m .sums) (λ k l q. same k l ∙ getD-set-other space (2 * n + over) (2 * n + k) sum 0 (λ z. q (omega arith)))
       (same over (omega (arith, over-low)) ∙ getD-set-same space (2 * n + over) sum 0 (omega (arith, wide, over-low)) ∙ sum-is t at over _ h (above .1) _ (m .sums))
 
   short : getD counted (4 * n + at) 0 + 1 < getD counted (4 * n + over) 0 → MeasuredFrom ps at counted
@@ -131,8 +131,8 @@ module _ {ps space : List ℕ} (at : ℕ) (b : 0 < at) (h : at < length ps) (m :
       record {
         linked = linked-now;
         sums = sums-on counted (λ k l. refl);
-        highs = hung-more t at over _ h (above .1) heightOf _ _ highs-now (λ k l q. refl) x;
-        longs = hung-more t at over _ h (above .1) (longOf ps) _ _ longs-now (λ k l q. refl) (longs-now over (omega (arith, over-low)) ∙ y);
+        highs = words-more t at over _ h (above .1) heightOf _ _ highs-now (λ k l q. refl) x;
+        longs = words-more t at over _ h (above .1) (longOf ps) _ _ longs-now (λ k l q. refl) (longs-now over (omega (arith, over-low)) ∙ y);
       }
 
   tall : getD counted (4 * n + over) 0 ≤ getD counted (4 * n + at) 0 + 1 → MeasuredFrom ps at (set (set counted (4 * n + over) (getD counted (4 * n + at) 0 + 1)) (5 * n + over) at)
@@ -144,10 +144,10 @@ module _ {ps space : List ℕ} (at : ℕ) (b : 0 < at) (h : at < length ps) (m :
       record {
         linked = linked-set (5 * n + over) at (omega arith) (omega (arith, over-low)) (inr (omega arith)) linked-one;
         sums = sums-on (set one (5 * n + over) at) (λ k l. getD-set-other one (5 * n + over) (2 * n + k) at 0 (λ q. omega arith) ∙ getD-set-other counted (4 * n + over) (2 * n + k) x 0 (λ q. omega arith));
-        highs = hung-more t at over _ h (above .1) heightOf _ _ highs-now
+        highs = words-more t at over _ h (above .1) heightOf _ _ highs-now
             (λ k l q. getD-set-other one (5 * n + over) (4 * n + k) at 0 (λ r. omega arith) ∙ getD-set-other counted (4 * n + over) (4 * n + k) x 0 (λ r. q (omega arith)))
             (getD-set-other one (5 * n + over) (4 * n + over) at 0 (λ r. omega (arith, over-low)) ∙ getD-set-same counted (4 * n + over) x 0 (omega (arith, linked-now .walked .room, over-low)) ∙ y);
-        longs = hung-more t at over _ h (above .1) (longOf ps) _ _ longs-now
+        longs = words-more t at over _ h (above .1) (longOf ps) _ _ longs-now
             (λ k l q. getD-set-other one (5 * n + over) (5 * n + k) at 0 (λ r. q (omega arith)) ∙ getD-set-other counted (4 * n + over) (5 * n + k) x 0 (λ r. omega (arith, over-low)))
             (getD-set-same one (5 * n + over) at 0 (omega (arith, linked-one .walked .room, over-low)) ∙ z);
       }

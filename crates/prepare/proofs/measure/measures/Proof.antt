@@ -1,4 +1,4 @@
--- `measure::measures` meets its contract: each position has the measures of what hangs below its entry from the end on. Assumes nothing.
+-- `measure::measures` meets its contract: each position has the measures of what is below its entry from the end on. Assumes nothing.
 use mathlib.Core.Path.{sym, _∙_}
 use Prim.Native.Nat.{suc, _-_, _≤_, _<_}
 use native.Mathlib.Omega.{arith}
