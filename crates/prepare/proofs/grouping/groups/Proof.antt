@@ -10,7 +10,7 @@ use Rattle.base.specs.Limits.{mostEntries}
 use Rattle.tree.specs.Forest.{size}
 use Rattle.prepare.specs.Arrays.{entryAt}
 use Rattle.prepare.proofs.Preorder.{array-length, array-words}
-use Rattle.prepare.proofs.grouping.Turns.{GroupsBefore, groups-none, groups-end, groups-same, groups-more, group-depths, group-room, group-some}
+use Rattle.prepare.proofs.grouping.Turns.{GroupsBefore, groups-none, groups-long, groups-end, groups-same, groups-more, group-depths, group-room, group-some}
 use Rattle.prepare.proofs.grouping.groups.Statement.{statement}
 use Rattle.prepare.proofs.grouping.groups.Tie as tie
 
@@ -78,16 +78,9 @@ loop-again c =
     let t = start r .pre .0 in
     let l = loop r .loop in
     let few = c .before .before .before .if2 .taken in
-    let shape = n .ensures .0 _ _ _ (group-depths t (l .inv .2) (here r) _ (start r .pre .2)) (word r) few in (
-      bounds r .0,
-      record {
-        few = l .inv .1 .few;
-        sizes = l .inv .1 .sizes;
-        room = length-set (set (set (l .cells) (l .cell) (l .next .0)) (l .cell + 1) (n .result)) (l .cell + 2) (p .result) ∙ length-set (set (l .cells) (l .cell) (l .next .0)) (l .cell + 1) (n .result) ∙ length-set (l .cells) (l .cell) (l .next .0) ∙ l .inv .1 .room;
-        used = omega (arith, l .inv .1 .used, bounds r .1);
-      },
-      groups-more t (l .inv .2) (here r) _ (word r) few (n .result) (p .result) shape (p .ensures),
-    )
+    let shape = n .ensures .0 _ _ _ (group-depths t (l .inv .2) (here r) _ (start r .pre .2)) (word r) few in
+    let g = groups-more t (l .inv .2) (here r) _ (word r) few (n .result) (p .result) shape (p .ensures) in
+    (bounds r .0, record { few = l .inv .1 .few; sizes = l .inv .1 .sizes; room = groups-long t g; used = omega (arith, l .inv .1 .used, bounds r .1) }, g)
 
 loop-again-2 : tie.Need-loop-again-2 Inv-loop μ-loop
 loop-again-2 c =

@@ -96,6 +96,12 @@ loop-again c =
       kinds-micro (loop r .before .pre .0) (loop r .loop .inv .2) (here r) (grouped j) _ _ (entry r) refl,
     )
 
+add-if4 : tie.Need-add-if4 Inv-loop μ-loop
+add-if4 c =
+    let l = loop (c .before .before .before .before) in
+    let h : l .loop .last .0 < length (l .before .args .parents .now) = omega (arith, l .loop .inv .2 .last-in, here (c .before .before .before .before)) in
+    omega (arith, size-small (l .before .pre .0) (l .loop .last .0) h _ (word (l .before) _ h))
+
 -- the jump entries before a position of a larger size
 macro : (e : tie.Else2 Inv-loop μ-loop) → micro groupLimit (list (e .before)) (entryAt (list (e .before)) (at (e .before))) ≡ false
 macro e = let r = e .before in word-macro (loop r .before .pre .0) (at r) (here r) _ (word (loop r .before) (at r) (here r)) (e .if2 .left)
@@ -170,7 +176,7 @@ kinds-spec =
     (λ c. search needs)
     (λ c. search needs)
     (λ c. search needs)
-    (λ c. let r = c .before .before .before .before in let l = loop r in omega (arith, size-small (l .before .pre .0) (l .loop .last .0) (omega (arith, l .loop .inv .2 .last-in, here r)) _ (word (l .before) _ (omega (arith, l .loop .inv .2 .last-in, here r)))))
+    add-if4
     (λ c. search needs)
     (λ c. search needs)
     (λ c. search needs)

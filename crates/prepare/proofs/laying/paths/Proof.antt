@@ -73,7 +73,7 @@ high : (c : tie.After-slice-known6 Inv-loop μ-loop) → (let p = begun c .befor
     getD (laid c .settle .last .1 .0) (4 * length (list (loop p)) + loop p .loop .next .0) 0 ≡ height (list (loop p)) (entry p))
 high c =
     let p = begun c .before in
-    ap (λ x. getD x (4 * length (list (loop p)) + loop p .loop .next .0) 0) (laid c .settle .ensures .0) ∙ height-kept (so p) (low p) (placed c .top-place .result)
+    ap (λ x. getD x (4 * length (list (loop p)) + loop p .loop .next .0) 0) (laid c .settle .ensures .0) ∙ height-kept (so p) (low p) _
 
 add-height : tie.Need-add-words-2 Inv-loop μ-loop
 add-height c = let p = begun c in omega (arith, placed c .top-place .ensures .0, high c, words-small (so (p .before)) (low (p .before)) (top p))
