@@ -46,49 +46,47 @@ module _ {ps : List ℕ} {ladders : ℕ} {t : List ℕ} (r : Reached ps ladders 
     rungs = stays t a x b ladders (2 * length ps) (inl (omega arith)) ∙ r .rungs;
   }
 
--- the records of the first i entries of a list
+-- the records of the first i entries of a list, from `first` on, behind all that they are filled from
 pub record RowsBefore (ps : List ℕ) (ladders first : ℕ) (nodes old : List ℕ) (table : List ℕ) (at i : ℕ) : Type 0 where
+  pub room : first + 21 * length nodes ≤ length old
+  pub behind : (4 + 3 * length ps ≤ first) × (ladders + 2 * length ps ≤ first)
   pub place : at ≡ first + 21 * i
   pub within : i ≤ length nodes
   pub laid : table ≡ put old first (flatMap (jumpRecord ps) (take i nodes))
   pub long : length table ≡ length old
   pub reached : Reached ps ladders table
 
-module _ (ps : List ℕ) (ladders first : ℕ) (nodes old : List ℕ) (room : first + 21 * length nodes ≤ length old) (a : 4 + 3 * length ps ≤ first) (b : ladders + 2 * length ps ≤ first) where
-  pub rows-none : Reached ps ladders old → RowsBefore ps ladders first nodes old old first 0
-  unfolding flatMap
-  rows-none r = record { place = omega arith; within = omega arith; laid = sym (put-none old first); long = refl; reached = r }
+pub rows-none : {ps : List ℕ} {ladders first : ℕ} {nodes old : List ℕ} → first + 21 * length nodes ≤ length old → 4 + 3 * length ps ≤ first → ladders + 2 * length ps ≤ first → Reached ps ladders old
+    → RowsBefore ps ladders first nodes old old first 0
+unfolding flatMap
+rows-none {first = first} {old = old} h a b r = record { room = h; behind = (a, b); place = omega arith; within = omega arith; laid = sym (put-none old first); long = refl; reached = r }
 
-  module _ (table : List ℕ) (at i : ℕ) (h : i < length nodes) (s : RowsBefore ps ladders first nodes old table at i) where
-    rows : ℕ → List ℕ
-    rows i = flatMap (jumpRecord ps) (take i nodes)
+module _ {ps : List ℕ} {ladders first : ℕ} {nodes old table : List ℕ} {at i : ℕ} (s : RowsBefore ps ladders first nodes old table at i) where
+  pub rows-all : length nodes ≤ i → table ≡ put old first (flatMap (jumpRecord ps) nodes)
+  rows-all h = s .laid ∙ ap (λ l. put old first (flatMap (jumpRecord ps) l)) (take-all i nodes h)
 
-    rows-are : length (rows i) ≡ 21 * i
-    unfolding rows
-    rows-are = rows-length (jumpRecord ps) 21 (jump-wide groupLimit ps) (take i nodes) ∙ ap (λ k. 21 * k) (length-take i nodes ∙ omega arith)
-
+  module _ (h : i < length nodes) where
     pub rows-room : at + 21 ≤ length table
-    rows-room = omega (arith, s .place, s .long)
+    rows-room = omega (arith, s .place, s .long, s .room)
 
     pub rows-next : (new : List ℕ) → new ≡ put table at (jumpRecord ps (getD nodes i 0)) → length new ≡ length table → RowsBefore ps ladders first nodes old new (at + 21) (i + 1)
-    unfolding rows
     rows-next new e l =
         let x = jumpRecord ps (getD nodes i 0) in
+        let rows = flatMap (jumpRecord ps) (take i nodes) in
         let w = jump-wide groupLimit ps (getD nodes i 0) in
-        let q : flatMap (jumpRecord ps) (take (i + 1) nodes) ≡ rows i ++ x
+        let many : length rows ≡ 21 * i = rows-length (jumpRecord ps) 21 (jump-wide groupLimit ps) (take i nodes) ∙ ap (λ k. 21 * k) (length-take i nodes ∙ omega arith) in
+        let q : flatMap (jumpRecord ps) (take (i + 1) nodes) ≡ rows ++ x
         = ap (flatMap (jumpRecord ps)) (ap (λ k. take k nodes) (add-one i) ∙ take-suc nodes i 0 h) ∙ rows-more (jumpRecord ps) (take i nodes) (getD nodes i 0) in
-        let p : first + length (rows i) ≡ at = omega (arith, rows-are, s .place) in
-        let both : put table at x ≡ put old first (rows i ++ x) = ap (λ m. put m at x) (s .laid) ∙ put-more old first at (rows i) x p (omega (arith, rows-are)) in
+        let both : put table at x ≡ put old first (rows ++ x) = ap (λ m. put m at x) (s .laid) ∙ put-more old first at rows x (omega (arith, s .place)) (omega (arith, s .place, s .room)) in
         record {
+          room = s .room;
+          behind = s .behind;
           place = omega (arith, s .place);
           within = omega arith;
           laid = e ∙ both ∙ ap (put old first) (sym q);
           long = l ∙ s .long;
-          reached = rw e (reached-put (s .reached) at x (omega (arith, s .place)) (omega (arith, s .place)) (omega (arith, rows-room)));
+          reached = rw e (reached-put (s .reached) at x (omega (arith, s .place, s .behind .0)) (omega (arith, s .place, s .behind .1)) (omega (arith, rows-room)));
         }
-
-  pub rows-all : (table : List ℕ) (at i : ℕ) → length nodes ≤ i → RowsBefore ps ladders first nodes old table at i → table ≡ put old first (flatMap (jumpRecord ps) nodes)
-  rows-all table at i h s = s .laid ∙ ap (λ l. put old first (flatMap (jumpRecord ps) l)) (take-all i nodes h)
 
 -- JUMPS as a whole: the list of the jump entries, and their records over zeros
 module _ {ps t : List ℕ} (one : OneTree ps) (s : Sectioned ps t) (long : length t ≡ tableWords (length ps)) where
