@@ -1,20 +1,21 @@
 -- Laws of `keep`, `first`, `index`, `every` and `has`: what passes a test, and where the first stands that does. Assumes nothing.
 use mathlib.Core.Path.{_≡_, refl, sym, ap, _∙_}
-use mathlib.Core.List.{List, [], _∷_, _++_}
+use mathlib.Core.List.{List, [], _∷_, _++_, append-nil}
 use mathlib.Core.Bool.{Bool, true, false, cond}
 use mathlib.Core.Option.{none, some}
 use Prim.Native.Nat.{ℕ, suc, _+_, _≤_, _<_}
 use native.Mathlib.Omega.{arith}
 use native.Mathlib.Nat.{add-zero}
 use native.Mathlib.Decide.{ℕ-discrete}
-use lib.ListN.{length, getD, take, drop}
-use lib.Seq.{split-at}
+use lib.ListN.{length, getD, take, drop, length-append, length-take}
+use lib.Seq.{split-at, take-suc}
 use lib.Dec.{eqb}
 use borrow.Author.Tests.{eqb-true, ne-eqb}
 use Rattle.base.specs.Lists.{keep, first, index, every, some?, has}
 use Rattle.base.proofs.Lists.{clash, All, index-past}
 use Rattle.base.proofs.Counts.{one, times}
 use Rattle.base.proofs.Places.{times-same, times-other}
+use native.Mathlib.Numerals.{add-one}
 
 module _ {ℓ} {A : Type ℓ} (test : A → Bool) where
   -- what is kept of two lists joined, and of one that passes with those before and after it
@@ -160,3 +161,38 @@ module _ (test : ℕ → Bool) where
       go : (b : Bool) → test y ≡ b → first test l ≡ none → cond b (some y) (first test l) ≡ none
       go true e ih = absurd (no-one y (omega (arith, times-same y y l refl)) e)
       go false e ih = ih
+
+-- what passes two tests that agree, and a test that all pass
+pub keep-alike : (s t : ℕ → Bool) (l : List ℕ) → ((x : ℕ) → 1 ≤ times x l → s x ≡ t x) → keep s l ≡ keep t l
+unfolding keep times
+keep-alike s t [] h = refl
+keep-alike s t (y ∷ l) h = rw (h y (omega (arith, times-same y y l refl)), keep-alike s t l (λ x k. h x (omega arith)))
+
+pub keep-all : (t : ℕ → Bool) (l : List ℕ) → ((x : ℕ) → 1 ≤ times x l → t x ≡ true) → keep t l ≡ l
+unfolding keep times
+keep-all t [] h = refl
+keep-all t (y ∷ l) h = rw (h y (omega (arith, times-same y y l refl))) (ap (_∷_ y) (keep-all t l (λ x k. h x (omega arith))))
+
+-- what passes a test among the first of a list, one further
+pub keep-few : (test : ℕ → Bool) (l : List ℕ) (i : ℕ) → length (keep test (take i l)) ≤ i
+keep-few test l i = omega (arith, keep-most test (take i l), length-take i l)
+
+module _ (test : ℕ → Bool) (l : List ℕ) (i : ℕ) (h : i < length l) where
+  next-kept : keep test (take (i + 1) l) ≡ keep test (take i l) ++ keep test (getD l i 0 ∷ [])
+  next-kept = rw (add-one i, take-suc l i 0 h) (keep-append test (take i l) (getD l i 0 ∷ []))
+
+  pub keep-next : test (getD l i 0) ≡ true → keep test (take (i + 1) l) ≡ keep test (take i l) ++ (getD l i 0 ∷ [])
+  unfolding keep
+  keep-next e = next-kept ∙ ap (λ m. keep test (take i l) ++ m) (keep-yes test (getD l i 0) [] e)
+
+  pub keep-same : test (getD l i 0) ≡ false → keep test (take (i + 1) l) ≡ keep test (take i l)
+  unfolding keep
+  keep-same e = next-kept ∙ ap (λ m. keep test (take i l) ++ m) (keep-no test (getD l i 0) [] e) ∙ append-nil (keep test (take i l))
+
+  pub keep-count : length (keep test (take (i + 1) l)) ≡ length (keep test (take i l)) + one (test (getD l i 0))
+  unfolding keep
+  keep-count = ap length next-kept ∙ length-append (keep test (take i l)) (keep test (getD l i 0 ∷ [])) ∙ ap (λ m. length (keep test (take i l)) + m) (go (test (getD l i 0)))
+    where
+      go : (b : Bool) → length (cond b (getD l i 0 ∷ []) []) ≡ one b
+      go true = refl
+      go false = refl

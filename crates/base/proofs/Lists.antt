@@ -3,11 +3,11 @@ use mathlib.Core.Path.{_≡_, refl, sym, ap, ap₂, subst, _∙_}
 use mathlib.Core.List.{List, [], _∷_, _++_, map}
 use mathlib.Core.Bool.{Bool, true, false, cond}
 use mathlib.Core.Option.{Option, none, some, Option·none-ne-some}
-use Prim.Native.Nat.{ℕ, zero, suc, _+_, _≤_, _<_}
+use Prim.Native.Nat.{ℕ, zero, suc, _+_, _-_, _≤_, _<_}
 use native.Mathlib.Nat.{add-zero, zero-add, suc-add, not-suc-le-zero, le-of-suc-le-suc}
 use native.Mathlib.Omega.{arith}
 use native.Mathlib.Decide.{ℕ-discrete}
-use lib.ListN.{length, getD, getElem?}
+use lib.ListN.{length, getD, getElem?, drop, replicate}
 use borrow.Author.Tests.{eq-eqb, ne-eqb}
 use Rattle.base.specs.Lists.{each, below, first, index, places}
 
@@ -181,3 +181,14 @@ pub each-same {ℓ} : {A : Type ℓ} (n i : ℕ) (f g : ℕ → A) → ((k : ℕ
 unfolding each
 each-same zero i f g h = refl
 each-same (suc n) i f g h = ap₂ _∷_ (h i) (each-same n (suc i) f g h)
+
+-- a part of a list of values, and of one of zeros
+pub drop-map : (f : ℕ → ℕ) (i : ℕ) (l : List ℕ) → drop i (map f l) ≡ map f (drop i l)
+drop-map f zero l = refl
+drop-map f (suc i) [] = refl
+drop-map f (suc i) (x ∷ l) = drop-map f i l
+
+pub drop-zeros : (n m : ℕ) → drop {A = ℕ} n (replicate m 0) ≡ replicate (m - n) 0
+drop-zeros zero m = let e : m ≡ m - 0 = omega arith in ap (λ k. replicate {A = ℕ} k 0) e
+drop-zeros (suc n) zero = let e : 0 ≡ 0 - suc n = omega arith in ap (λ k. replicate {A = ℕ} k 0) e
+drop-zeros (suc n) (suc m) = let e : m - n ≡ suc m - suc n = omega arith in drop-zeros n m ∙ ap (λ k. replicate {A = ℕ} k 0) e

@@ -1,15 +1,16 @@
 -- Where a number stands in a list, by how often it does. Assumes nothing.
-use mathlib.Core.Path.{_≡_, refl, sym, ap}
-use mathlib.Core.List.{List, [], _∷_}
+use mathlib.Core.Path.{_≡_, refl, sym, ap, _∙_}
+use mathlib.Core.List.{List, [], _∷_, _++_}
 use mathlib.Core.Bool.{Bool, true, false}
 use Prim.Native.Nat.{ℕ, zero, suc, _≤_, _<_}
 use native.Mathlib.Omega.{arith}
 use native.Mathlib.Nat.{not-suc-le-zero, le-of-suc-le-suc}
 use native.Mathlib.Decide.{ℕ-discrete}
-use lib.ListN.{length, getD}
+use lib.ListN.{length, getD, take, drop}
 use borrow.Author.Tests.{eq-eqb, ne-eqb}
 use Rattle.base.specs.Lists.{index, place}
 use Rattle.base.proofs.Counts.{one, times}
+use lib.Seq.{split-at}
 
 -- a truth value that counts is true, and counts once at most
 pub one-true : (b : Bool) → 1 ≤ one b → b ≡ true
@@ -58,3 +59,10 @@ place-is x (y ∷ l) (suc i) o h e = go (ℕ-discrete x y) (place-is x l i)
     go : Dec (x ≡ y) → (times x l ≤ 1 → i < length l → getD l i 0 ≡ x → place x l ≡ i) → place x (y ∷ l) ≡ suc i
     go (yes q) ih = absurd (omega (arith, times-same x y l q, in-tail))
     go (no q) ih = rw (ne-eqb x y q) (ap suc (ih (omega (arith, times-other x y l q)) (le-of-suc-le-suc h) e))
+
+-- a list at one that stands in it
+pub parted : (x : ℕ) (l : List ℕ) → 1 ≤ times x l → (a : List ℕ) × (b : List ℕ) × (l ≡ a ++ (x ∷ b))
+parted x l h =
+    let i = place x l in
+    let (b, e) = place-stands x l h in
+    (take i l, drop (suc i) l, split-at l i 0 b ∙ ap (λ y. take i l ++ (y ∷ drop (suc i) l)) e)

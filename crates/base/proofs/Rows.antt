@@ -1,6 +1,6 @@
 -- Rows of one length laid end to end: what stands at each place. Assumes nothing.
-use mathlib.Core.Path.{_≡_, _∙_}
-use mathlib.Core.List.{List, [], _∷_, flatMap}
+use mathlib.Core.Path.{_≡_, sym, ap, _∙_}
+use mathlib.Core.List.{List, [], _∷_, _++_, flatMap, append-nil, append-assoc}
 use Prim.Native.Nat.{ℕ, zero, suc, _+_, _*_, _<_}
 use native.Mathlib.Omega.{arith}
 use native.Mathlib.Nat.{mul-zero, mul-suc, not-suc-le-zero, le-of-suc-le-suc}
@@ -23,3 +23,9 @@ module _ {ℓ κ} {A : Type ℓ} {B : Type κ} (f : A → List B) (w : ℕ) (wid
   rows-at (x ∷ l) (suc i) j a d h b =
       let z : w * suc i + j ≡ length (f x) + (w * i + j) = omega (arith, wide x, mul-suc w i) in
       rw z (getD-append-add (f x) (flatMap f l) (w * i + j) d ∙ rows-at l i j a d (le-of-suc-le-suc h) b)
+
+-- one row more, laid behind the others
+pub rows-more {ℓ κ} : {A : Type ℓ} {B : Type κ} (f : A → List B) (l : List A) (x : A) → flatMap f (l ++ (x ∷ [])) ≡ flatMap f l ++ f x
+unfolding flatMap
+rows-more f [] x = append-nil (f x)
+rows-more f (y ∷ l) x = ap (λ m. f y ++ m) (rows-more f l x) ∙ sym (append-assoc (f y) (flatMap f l) (f x))

@@ -1,19 +1,6 @@
 -- How the passes over the preorder fill their sections, how the sections make the table, and what preparing answers.
-pub mod Spreading
-pub mod Laddering
-pub mod Rooting
-pub mod Kinding
-pub mod Rising
-pub mod Gathering
-pub mod Leaping
-pub mod Doubling
-pub mod Nearing
-pub mod Hanging
-pub mod Standing
-pub mod Growing
-pub mod Staging
-pub mod Loading
-pub mod Assembly
-pub mod Recording
+pub mod Preorder
+pub mod Roots
+pub mod Space
 pub mod Calls
 pub mod Promises

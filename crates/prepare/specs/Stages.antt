@@ -1,18 +1,17 @@
 -- What stands in the working space and in the table while the table is filled. In the space, each region has an array by preorder position.
 -- Assumes nothing.
 use mathlib.Core.Path.{_≡_}
-use mathlib.Core.List.{List, map}
+use mathlib.Core.List.{List}
 use Prim.Native.Nat.{ℕ, _+_, _*_, _≤_}
 use lib.ListN.{length}
 use Rattle.base.specs.Lists.{below, view}
-use Rattle.base.specs.Limits.{mostEntries, groupLimit, spaceWords, depthStart, kindStart, ladposStart, orderStart, preStart, sizeStart, laddersStart, groupsStart}
+use Rattle.base.specs.Limits.{mostEntries, spaceWords, depthStart, kindStart, ladposStart, orderStart, preStart, sizeStart, laddersStart, groupsStart}
 use Rattle.tree.specs.Parents.{depth}
 use Rattle.tree.specs.Forest.{size, height, order, position}
 use Rattle.tree.specs.Faults.{Tree}
 use Rattle.table.specs.Ladders.{ladPos}
-use Rattle.table.specs.Groups.{kind}
 use Rattle.table.specs.Table.{ladderCells, groupCells}
-use Rattle.prepare.specs.Arrays.{abovePosition, longPosition}
+use Rattle.prepare.specs.Arrays.{OneTree, byPosition, depthsOf, sizesOf, abovesOf, longPosition, kindsOf}
 
 -- regions 0 and 1: the preorder and the depths of a list that forms one tree
 pub record Walked (ps space : List ℕ) : Type 0 where
@@ -20,24 +19,32 @@ pub record Walked (ps space : List ℕ) : Type 0 where
   pub tree : Tree ps
   pub room : length space ≡ spaceWords (length ps)
   pub orders : view 0 (length ps) space ≡ order ps
-  pub depths : view (length ps) (length ps) space ≡ map (depth ps) (order ps)
+  pub depths : view (length ps) (length ps) space ≡ depthsOf ps
 
--- regions 2 to 5: the sizes, the positions of the entries above, the heights, and the positions to which the long paths continue
-pub record Measured (ps space : List ℕ) : Type 0 where
+-- region 3: the positions of the entries above
+pub record Linked (ps space : List ℕ) : Type 0 where
   pub walked : Walked ps space
-  pub sizes : view (2 * length ps) (length ps) space ≡ map (size ps) (order ps)
-  pub aboves : view (3 * length ps) (length ps) space ≡ map (abovePosition ps) (order ps)
-  pub heights : view (4 * length ps) (length ps) space ≡ map (height ps) (order ps)
-  pub longs : view (5 * length ps) (length ps) space ≡ map (longPosition ps) (order ps)
+  pub aboves : view (3 * length ps) (length ps) space ≡ abovesOf ps
+
+-- regions 4 and 5: the heights, and the positions to which the long paths continue
+pub record Pathed (ps space : List ℕ) : Type 0 where
+  pub linked : Linked ps space
+  pub heights : view (4 * length ps) (length ps) space ≡ byPosition ps (height ps)
+  pub longs : view (5 * length ps) (length ps) space ≡ byPosition ps (longPosition ps)
+
+-- region 2: the sizes
+pub record Measured (ps space : List ℕ) : Type 0 where
+  pub pathed : Pathed ps space
+  pub sizes : view (2 * length ps) (length ps) space ≡ sizesOf ps
 
 -- region 2 with LADPOS by position in place of the sizes
-pub record Placing (ps space : List ℕ) : Type 0 where
-  pub walked : Walked ps space
-  pub places : view (2 * length ps) (length ps) space ≡ map (ladPos ps) (order ps)
+pub record Placed (ps space : List ℕ) : Type 0 where
+  pub pathed : Pathed ps space
+  pub places : view (2 * length ps) (length ps) space ≡ byPosition ps (ladPos ps)
 
 -- KIND, SIZE and GROUPS
 pub record Familied (ps table : List ℕ) : Type 0 where
-  pub kinds : view (kindStart (length ps)) (length ps) table ≡ below (length ps) (kind groupLimit ps)
+  pub kinds : view (kindStart (length ps)) (length ps) table ≡ kindsOf ps
   pub sizes : view (sizeStart (length ps)) (length ps) table ≡ below (length ps) (size ps)
   pub groups : view (groupsStart (length ps)) (3 * length ps) table ≡ groupCells ps
 
@@ -56,8 +63,7 @@ pub record Sectioned (ps table : List ℕ) : Type 0 where
 
 -- what a record is filled from: DEPTH, LADPOS, and the ladders from a cell on
 pub record Reached (ps : List ℕ) (ladders : ℕ) (table : List ℕ) : Type 0 where
-  pub few : length ps ≤ mostEntries
-  pub tree : Tree ps
+  pub one : OneTree ps
   pub long : 4 + 3 * length ps ≤ length table
   pub fits : ladders + 2 * length ps ≤ length table
   pub depths : view (depthStart (length ps)) (length ps) table ≡ below (length ps) (depth ps)

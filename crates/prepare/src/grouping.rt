@@ -1,20 +1,20 @@
 // GROUPS.
 ghost use mathlib.Core.Path.{_≡_};
-ghost use mathlib.Core.List.{List};
 ghost use mathlib.Core.Option.{Option·getD};
-ghost use Prim.Native.Nat.{ℕ, _*_, _<_};
+ghost use Prim.Native.Nat.{_*_, _<_};
 ghost use lib.ListN.{length};
 ghost use Rattle.tree.specs.Parents.{topMark, parent};
-ghost use Rattle.prepare.specs.Arrays.{entryAt, Climbs, Members, Grouped};
+ghost use Rattle.table.specs.Table.{groupCells};
+ghost use Rattle.prepare.specs.Arrays.{OneTree, entryAt, entriesOf, depthsOf, sizesOf, abovesOf};
 use base::Position;
 use base::limits::GROUP_LIMIT;
 use base::limits::TOP_MARK;
 use base::set_all;
 
 // The entry above the one at a position, or the top mark.
-fn parent_word(order: &[u32], above: &[u32], at: Position) -> u32
-    requires { ⌜ ((ps : List ℕ) × Climbs ps (now order) (now above)) × (at .0 < length (now order)) ⌝ }
-    ensures { λ r. ⌜ ((ps : List ℕ) → Climbs ps (now (order .entry)) (now (above .entry)) → r ≡ Option·getD (parent ps (entryAt ps (at .0))) topMark) ⌝ }
+fn parent_word(parents: &[u32], order: &[u32], above: &[u32], at: Position) -> u32
+    requires { ⌜ OneTree (now parents) × (now order ≡ entriesOf (now parents)) × (now above ≡ abovesOf (now parents)) × (at .0 < length (now parents)) ⌝ }
+    ensures { λ r. ⌜ r ≡ Option·getD (parent (now (parents .entry)) (entryAt (now (parents .entry)) (at .0))) topMark ⌝ }
 {
     if at.0 == 0 {
         return TOP_MARK;
@@ -24,19 +24,26 @@ fn parent_word(order: &[u32], above: &[u32], at: Position) -> u32
 }
 
 // GROUPS: each group's position, shape and parent, in preorder, and zeros behind. A position of size 5 or less, past the groups before it, starts the next.
-pub(crate) fn groups(order: &[u32], depth: &[u32], size: &[u32], above: &[u32], cells: &mut [u32])
-    requires { ⌜ ((ps : List ℕ) × Members ps (now order) (now depth) (now size) (now above)) × (length (now cells) ≡ 3 * length (now order)) ⌝ }
-    ensures { λ _. ⌜ ((ps : List ℕ) → Members ps (now (order .entry)) (now (depth .entry)) (now (size .entry)) (now (above .entry)) → Grouped ps (now (cells .exit))) ⌝ }
+pub(crate) fn groups(
+    parents: &[u32],
+    order: &[u32],
+    depth: &[u32],
+    size: &[u32],
+    above: &[u32],
+    cells: &mut [u32],
+)
+    requires { ⌜ OneTree (now parents) × (now order ≡ entriesOf (now parents)) × (now depth ≡ depthsOf (now parents)) × (now size ≡ sizesOf (now parents)) × (now above ≡ abovesOf (now parents)) × (length (now cells) ≡ 3 * length (now parents)) ⌝ }
+    ensures { λ _. ⌜ now (cells .exit) ≡ groupCells (now (parents .entry)) ⌝ }
 {
     let mut cell: usize = 0;
     let mut next = Position(0);
-    while (next.0 as usize) < order.len() {
+    while (next.0 as usize) < parents.len() {
         let at = next;
         let entries = size[at.0 as usize];
         if entries <= GROUP_LIMIT {
             cells[cell] = at.0;
             cells[cell + 1] = shapes::number(depth, at, entries as usize);
-            cells[cell + 2] = parent_word(order, above, at);
+            cells[cell + 2] = parent_word(parents, order, above, at);
             cell += 3;
             next = Position(at.0 + entries);
         } else {

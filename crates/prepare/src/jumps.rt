@@ -1,23 +1,26 @@
 // What JUMPS is laid from: the jump entries, and the record of each.
 ghost use mathlib.Core.Path.{_≡_};
-ghost use mathlib.Core.List.{List};
-ghost use Prim.Native.Nat.{ℕ, _<_};
-ghost use lib.ListN.{length};
+ghost use Prim.Native.Nat.{_<_};
+ghost use lib.ListN.{length, take};
+ghost use Rattle.base.specs.Limits.{groupLimit};
+ghost use Rattle.base.specs.Lists.{below};
 ghost use Rattle.tree.specs.Parents.{depth};
-ghost use Rattle.table.specs.Groups.{jumpRecord};
-ghost use Rattle.prepare.specs.Arrays.{Jumping, Listed, Reaching};
+ghost use Rattle.table.specs.Groups.{jumpNodes, jumpRecord};
+ghost use Rattle.table.specs.Ladders.{ladPos};
+ghost use Rattle.table.specs.Table.{ladderCells};
+ghost use Rattle.prepare.specs.Arrays.{OneTree, entriesOf, kindsOf};
 use crate::places::RECORD_WORDS;
 use base::Node;
 use base::Position;
 use base::limits::MICRO_MARK;
 
 // The jump entries, in preorder: of the entries of size over 5 that lead to one jump entry, that entry stands last.
-pub(crate) fn jump_nodes(order: &[u32], kind: &[u32], cells: &mut [u32])
-    requires { ⌜ ((ps : List ℕ) × Jumping ps (now order) (now kind)) × (length (now cells) ≡ length (now order)) ⌝ }
-    ensures { λ _. ⌜ ((ps : List ℕ) → Jumping ps (now (order .entry)) (now (kind .entry)) → Listed ps (now (cells .exit))) ⌝ }
+pub(crate) fn jump_nodes(parents: &[u32], order: &[u32], kind: &[u32], cells: &mut [u32])
+    requires { ⌜ OneTree (now parents) × (now order ≡ entriesOf (now parents)) × (now kind ≡ kindsOf (now parents)) × (length (now cells) ≡ length (now parents)) ⌝ }
+    ensures { λ _. ⌜ take (length (jumpNodes groupLimit (now (parents .entry)))) (now (cells .exit)) ≡ jumpNodes groupLimit (now (parents .entry)) ⌝ }
 {
     let mut next = Position(0);
-    while (next.0 as usize) < order.len() {
+    while (next.0 as usize) < parents.len() {
         let at = next;
         next = Position(at.0 + 1);
         let v = Node(order[at.0 as usize]);
@@ -29,9 +32,15 @@ pub(crate) fn jump_nodes(order: &[u32], kind: &[u32], cells: &mut [u32])
 }
 
 // A jump entry's record, from LADPOS and LADDERS: each ancestor by one ladder from the one before.
-pub(crate) fn record(places: &[u32], rungs: &[u32], deep: u32, v: Node) -> [u32; RECORD_WORDS]
-    requires { ⌜ ((ps : List ℕ) × Reaching ps (now places) (now rungs) × (v .0 < length ps) × (deep ≡ depth ps (v .0))) ⌝ }
-    ensures { λ r. ⌜ ((ps : List ℕ) → Reaching ps (now (places .entry)) (now (rungs .entry)) → v .0 < length ps → deep ≡ depth ps (v .0) → r ≡ jumpRecord ps (v .0)) ⌝ }
+pub(crate) fn record(
+    parents: &[u32],
+    places: &[u32],
+    rungs: &[u32],
+    deep: u32,
+    v: Node,
+) -> [u32; RECORD_WORDS]
+    requires { ⌜ OneTree (now parents) × (now places ≡ below (length (now parents)) (ladPos (now parents))) × (now rungs ≡ ladderCells (now parents)) × (v .0 < length (now parents)) × (deep ≡ depth (now parents) (v .0)) ⌝ }
+    ensures { λ r. ⌜ r ≡ jumpRecord (now (parents .entry)) (v .0) ⌝ }
 {
     let mut r: [u32; RECORD_WORDS] = [0; RECORD_WORDS];
     r[0] = deep;

@@ -1,9 +1,10 @@
 // KIND.
 ghost use mathlib.Core.Path.{_≡_};
-ghost use mathlib.Core.List.{List};
-ghost use Prim.Native.Nat.{ℕ};
 ghost use lib.ListN.{length};
-ghost use Rattle.prepare.specs.Arrays.{Families, Kinded};
+ghost use Rattle.base.specs.Limits.{groupLimit};
+ghost use Rattle.base.specs.Lists.{below};
+ghost use Rattle.table.specs.Groups.{groupRoots, jumpNodes, kind};
+ghost use Rattle.prepare.specs.Arrays.{OneTree, entriesOf, sizesOf};
 use base::Node;
 use base::Position;
 use base::limits::GROUP_LIMIT;
@@ -18,9 +19,10 @@ pub struct Counts {
 
 // KIND, each word in its entry's cell. A position of size 5 or less starts a group just where the last one has ended. The last position of a size over 5 is a
 // jump entry's just where the next such position lies past its family.
-pub(crate) fn kinds(order: &[u32], size: &[u32], cells: &mut [u32]) -> Counts
-    requires { ⌜ ((ps : List ℕ) × Families ps (now order) (now size)) × (length (now cells) ≡ length (now size)) ⌝ }
-    ensures { λ r. ⌜ ((ps : List ℕ) → Families ps (now (order .entry)) (now (size .entry)) → Kinded ps (r .groups) (r .jumps) (now (cells .exit))) ⌝ }
+pub(crate) fn kinds(parents: &[u32], order: &[u32], size: &[u32], cells: &mut [u32]) -> Counts
+    requires { ⌜ OneTree (now parents) × (now order ≡ entriesOf (now parents)) × (now size ≡ sizesOf (now parents)) × (length (now cells) ≡ length (now size)) ⌝ }
+    ensures counts { λ r. ⌜ (r .groups ≡ length (groupRoots groupLimit (now (parents .entry)))) × (r .jumps ≡ length (jumpNodes groupLimit (now (parents .entry)))) ⌝ }
+    ensures laid { λ _. ⌜ now (cells .exit) ≡ below (length (now (parents .entry))) (kind groupLimit (now (parents .entry))) ⌝ }
 {
     let mut groups: u32 = 0;
     let mut jumps: u32 = 0;

@@ -1,13 +1,12 @@
 // ABOVE, SIZE, HEIGHT and LONG by position.
 ghost use mathlib.Core.Path.{_≡_};
-ghost use mathlib.Core.List.{List, map};
 ghost use Prim.Native.Nat.{ℕ, _+_, _*_, _≤_, _<_};
 ghost use lib.ListN.{length, getD, set, replicate};
 ghost use Rattle.base.specs.Limits.{mostEntries, spaceWords};
-ghost use Rattle.base.specs.Lists.{view, put};
+ghost use Rattle.base.specs.Lists.{put};
 ghost use Rattle.tree.specs.Parents.{topMark};
-ghost use Rattle.tree.specs.Forest.{order};
-ghost use Rattle.prepare.specs.Arrays.{entryAt, abovePosition, Depths, Aboves, Grown};
+ghost use Rattle.prepare.specs.Arrays.{OneTree, entryAt, abovePosition, depthsOf, abovesOf};
+ghost use Rattle.prepare.specs.Stages.{Linked, Measured};
 use crate::places::ABOVES;
 use crate::places::HEIGHTS;
 use crate::places::LONGS;
@@ -18,9 +17,9 @@ use base::limits::TOP_MARK;
 use base::set_all;
 
 // The position of the entry above: the nearest on the climb from the position before that is less deep.
-fn higher(depth: &[u32], above: &[u32], at: Position) -> Position
-    requires { ⌜ ((ps : List ℕ) × Depths ps (now depth) × ((k : ℕ) → k < at .0 → getD (now above) k 0 ≡ abovePosition ps (entryAt ps k))) × (0 < at .0) × (at .0 < length (now depth)) × (length (now above) ≡ length (now depth)) ⌝ }
-    ensures { λ r. ⌜ ((ps : List ℕ) → Depths ps (now (depth .entry)) → ((k : ℕ) → k < at .0 → getD (now (above .entry)) k 0 ≡ abovePosition ps (entryAt ps k)) → r .0 ≡ abovePosition ps (entryAt ps (at .0))) ⌝ }
+fn higher(parents: &[u32], depth: &[u32], above: &[u32], at: Position) -> Position
+    requires { ⌜ OneTree (now parents) × (now depth ≡ depthsOf (now parents)) × ((k : ℕ) → k < at .0 → getD (now above) k 0 ≡ abovePosition (now parents) (entryAt (now parents) k)) × (0 < at .0) × (at .0 < length (now depth)) × (length (now above) ≡ length (now depth)) ⌝ }
+    ensures { λ r. ⌜ r .0 ≡ abovePosition (now (parents .entry)) (entryAt (now (parents .entry)) (at .0)) ⌝ }
 {
     let own = depth[at.0 as usize];
     let mut over = Position(at.0 - 1);
@@ -31,14 +30,14 @@ fn higher(depth: &[u32], above: &[u32], at: Position) -> Position
 }
 
 // ABOVE: the position of the entry above, or the top mark.
-pub(crate) fn above(depth: &[u32], cells: &mut [u32])
-    requires { ⌜ ((ps : List ℕ) × Depths ps (now depth)) × (length (now cells) ≡ length (now depth)) ⌝ }
-    ensures { λ _. ⌜ ((ps : List ℕ) → Depths ps (now (depth .entry)) → now (cells .exit) ≡ map (abovePosition ps) (order ps)) ⌝ }
+pub(crate) fn above(parents: &[u32], depth: &[u32], cells: &mut [u32])
+    requires { ⌜ OneTree (now parents) × (now depth ≡ depthsOf (now parents)) × (length (now cells) ≡ length (now depth)) ⌝ }
+    ensures { λ _. ⌜ now (cells .exit) ≡ abovesOf (now (parents .entry)) ⌝ }
 {
     cells[0] = TOP_MARK;
     let mut at = Position(1);
     while (at.0 as usize) < depth.len() {
-        let over = higher(depth, cells, at);
+        let over = higher(parents, depth, cells, at);
         cells[at.0 as usize] = over.0;
         at = Position(at.0 + 1);
     }
@@ -77,10 +76,11 @@ fn lift(n: usize, space: &mut [u32], at: Position, over: Position)
 
 // SIZE, HEIGHT and LONG by position into regions 2, 4 and 5 of the working space, from ABOVE in region 3 and the last position down: of children of one
 // height the first is met last.
-pub(crate) fn measures(n: usize, space: &mut [u32])
-    requires { ⌜ ((ps : List ℕ) × Aboves ps (view (3 * n) n (now space)) × (n ≡ length ps)) × (length (now space) ≡ spaceWords n) ⌝ }
-    ensures { λ _. ⌜ ((ps : List ℕ) → Aboves ps (view (3 * n) n (now (space .entry))) → n ≡ length ps → Grown ps n (now (space .entry)) (now (space .exit))) ⌝ }
+pub(crate) fn measures(parents: &[u32], space: &mut [u32])
+    requires { ⌜ Linked (now parents) (now space) ⌝ }
+    ensures { λ _. ⌜ Measured (now (parents .entry)) (now (space .exit)) ⌝ }
 {
+    let n = parents.len();
     alone(n, space);
     let mut end = Position(n as u32);
     while 1 < end.0 {

@@ -1,7 +1,7 @@
 // Words carried between the working space and the table.
 ghost use mathlib.Core.Path.{_≡_};
 ghost use mathlib.Core.List.{map};
-ghost use Prim.Native.Nat.{ℕ, _+_, _*_, _≤_};
+ghost use Prim.Native.Nat.{ℕ, _+_, _≤_};
 ghost use lib.ListN.{length};
 ghost use Rattle.base.specs.Limits.{spaceWords};
 ghost use Rattle.base.specs.Lists.{below, view, put};
@@ -28,5 +28,5 @@ pub(crate) fn by_entry(parents: &[u32], space: &[u32], region: usize, table: &mu
     let n = parents.len();
     let b = region + n;
     let e = a + n;
-    scatter(&space[0..n], &space[region..b], &mut table[a..e]);
+    scatter(parents, &space[0..n], &space[region..b], &mut table[a..e]);
 }

@@ -33,7 +33,7 @@ fn fill_record(parents: &[u32], table: &mut [u32], ladders: usize, at: usize, v:
     let b = a + n;
     let end = ladders + 2 * n;
     let deep = table[HEADER_CELLS + v.0 as usize];
-    let words = record(&table[a..b], &table[ladders..end], deep, v);
+    let words = record(parents, &table[a..b], &table[ladders..end], deep, v);
     copy(&words[..], &mut table[at..at + RECORD_WORDS]);
 }
 
@@ -60,6 +60,7 @@ pub(crate) fn jump_section(parents: &[u32], jumps: u32, table: &mut [u32], space
     let b = JUMP_NODES * n;
     let first = HEADER_CELLS + JUMPS * n;
     jump_nodes(
+        parents,
         &table[HEADER_CELLS + ORDER * n..HEADER_CELLS + PRE * n],
         &table[HEADER_CELLS + n..HEADER_CELLS + LADPOS * n],
         &mut space[b..ABOVES * n],

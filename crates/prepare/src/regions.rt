@@ -17,6 +17,10 @@ pub(crate) fn measure(parents: &[u32], table: &mut [u32], space: &mut [u32])
     let n = parents.len();
     let b = HEADER_CELLS + n;
     carry(space, n, table, HEADER_CELLS, n);
-    crate::measure::above(&table[HEADER_CELLS..b], &mut space[ABOVES * n..HEIGHTS * n]);
-    crate::measure::measures(n, space);
+    crate::measure::above(
+        parents,
+        &table[HEADER_CELLS..b],
+        &mut space[ABOVES * n..HEIGHTS * n],
+    );
+    crate::measure::measures(parents, space);
 }

@@ -9,7 +9,7 @@ ghost use Rattle.tree.specs.Forest.{position};
 ghost use Rattle.table.specs.Groups.{groupRoots, jumpNodes, kind};
 ghost use Rattle.table.specs.Ladders.{pathTops};
 ghost use Rattle.table.specs.Table.{ladderCells, groupCells};
-ghost use Rattle.prepare.specs.Stages.{Walked, Measured, Placing, Familied, Laddered, Sectioned};
+ghost use Rattle.prepare.specs.Stages.{Walked, Measured, Placed, Familied, Laddered, Sectioned};
 use crate::kinds::Counts;
 use crate::parts::by_entry;
 use crate::parts::carry;
@@ -36,6 +36,7 @@ fn kind_section(parents: &[u32], table: &mut [u32], space: &[u32]) -> Counts
     let a = HEADER_CELLS + n;
     let b = a + n;
     crate::kinds::kinds(
+        parents,
         &space[0..n],
         &space[SIZES * n..ABOVES * n],
         &mut table[a..b],
@@ -51,6 +52,7 @@ fn group_section(parents: &[u32], table: &mut [u32], space: &[u32])
     let a = HEADER_CELLS + GROUPS * n;
     let b = a + 3 * n;
     crate::grouping::groups(
+        parents,
         &space[0..n],
         &space[n..SIZES * n],
         &space[SIZES * n..ABOVES * n],
@@ -76,13 +78,13 @@ pub(crate) fn family_sections(parents: &[u32], table: &mut [u32], space: &[u32])
 fn ladder_section(parents: &[u32], table: &mut [u32], space: &mut [u32]) -> u32
     requires { ⌜ Measured (now parents) (now space) × (length (now table) ≡ tableWords (length (now parents))) ⌝ }
     ensures paths { λ r. ⌜ r ≡ length (pathTops (now (parents .entry))) ⌝ }
-    ensures kept { λ _. ⌜ Placing (now (parents .entry)) (now (space .exit)) ⌝ }
+    ensures kept { λ _. ⌜ Placed (now (parents .entry)) (now (space .exit)) ⌝ }
     ensures laid { λ _. ⌜ now (table .exit) ≡ put (now (table .entry)) (laddersStart (length (now (parents .entry)))) (ladderCells (now (parents .entry))) ⌝ }
 {
     let n = parents.len();
     let a = HEADER_CELLS + LADDERS * n;
     let b = a + 2 * n;
-    crate::laying::paths(n, space, &mut table[a..b])
+    crate::laying::paths(parents, space, &mut table[a..b])
 }
 
 // LADDERS and LADPOS, beside the sections that stand; hands back how many long paths there are.
@@ -106,7 +108,7 @@ fn pre_section(parents: &[u32], table: &mut [u32], space: &[u32])
     let n = parents.len();
     let a = HEADER_CELLS + PRE * n;
     let b = a + n;
-    crate::spread::positions(&space[0..n], &mut table[a..b]);
+    crate::spread::positions(parents, &space[0..n], &mut table[a..b]);
 }
 
 // DEPTH, ORDER and PRE, beside the sections that stand.

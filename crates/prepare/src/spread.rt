@@ -1,19 +1,20 @@
 // The sections of n words: a word for each entry, from arrays with a word for each position.
 ghost use mathlib.Core.Path.{_≡_};
-ghost use Prim.Native.Nat.{_≤_};
+ghost use Prim.Native.Nat.{ℕ};
 ghost use lib.ListN.{length};
-ghost use Rattle.base.specs.Limits.{mostEntries};
-ghost use Rattle.prepare.specs.Arrays.{Indexes, Scattered, Placed};
+ghost use Rattle.base.specs.Lists.{below};
+ghost use Rattle.tree.specs.Forest.{position};
+ghost use Rattle.prepare.specs.Arrays.{OneTree, entriesOf, byPosition};
 use base::Node;
 use base::Position;
 
 // The word of each position into the cell of the entry that stands there.
-pub(crate) fn scatter(order: &[u32], values: &[u32], cells: &mut [u32])
-    requires { ⌜ (Indexes (now order) (now cells)) × (length (now order) ≤ mostEntries) × (length (now values) ≡ length (now order)) ⌝ }
-    ensures { λ _. ⌜ Scattered (now (order .entry)) (now (values .entry)) (now (cells .exit)) ⌝ }
+pub(crate) fn scatter(parents: &[u32], order: &[u32], values: &[u32], cells: &mut [u32])
+    requires { ⌜ OneTree (now parents) × (now order ≡ entriesOf (now parents)) × (length (now values) ≡ length (now parents)) × (length (now cells) ≡ length (now parents)) ⌝ }
+    ensures { λ _. ⌜ ((f : ℕ → ℕ) → now (values .entry) ≡ byPosition (now (parents .entry)) f → now (cells .exit) ≡ below (length (now (parents .entry))) f) ⌝ }
 {
     let mut at = Position(0);
-    while (at.0 as usize) < order.len() {
+    while (at.0 as usize) < parents.len() {
         let v = Node(order[at.0 as usize]);
         cells[v.0 as usize] = values[at.0 as usize];
         at = Position(at.0 + 1);
@@ -21,12 +22,12 @@ pub(crate) fn scatter(order: &[u32], values: &[u32], cells: &mut [u32])
 }
 
 // Each position into the cell of the entry that stands there.
-pub(crate) fn positions(order: &[u32], cells: &mut [u32])
-    requires { ⌜ (Indexes (now order) (now cells)) × (length (now order) ≤ mostEntries) ⌝ }
-    ensures { λ _. ⌜ Placed (now (order .entry)) (now (cells .exit)) ⌝ }
+pub(crate) fn positions(parents: &[u32], order: &[u32], cells: &mut [u32])
+    requires { ⌜ OneTree (now parents) × (now order ≡ entriesOf (now parents)) × (length (now cells) ≡ length (now parents)) ⌝ }
+    ensures { λ _. ⌜ now (cells .exit) ≡ below (length (now (parents .entry))) (position (now (parents .entry))) ⌝ }
 {
     let mut at = Position(0);
-    while (at.0 as usize) < order.len() {
+    while (at.0 as usize) < parents.len() {
         let v = Node(order[at.0 as usize]);
         cells[v.0 as usize] = at.0;
         at = Position(at.0 + 1);

@@ -7,6 +7,7 @@ pub mod Forests
 pub mod Levels
 pub mod Positions
 pub mod Intervals
+pub mod Siblings
 pub mod Ancestry
 pub mod Meanings
 pub mod Branches

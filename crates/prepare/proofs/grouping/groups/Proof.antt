@@ -6,109 +6,93 @@ use Prim.Native.Nat.{ℕ, _+_, _*_, _-_, _≤_, _<_}
 use native.Mathlib.Omega.{arith}
 use borrow.Author.Needs.{needs}
 use lib.ListN.{length, getD, set, length-set}
-use Rattle.prepare.specs.Arrays.{Members}
-use Rattle.prepare.proofs.Gathering.{Gathered, climbs-from, entries, sizes-many, gather-none, gather-end, gather-same, gather-more, group-depths, group-size, group-room, group-some}
+use Rattle.base.specs.Limits.{mostEntries}
+use Rattle.tree.specs.Forest.{size}
+use Rattle.prepare.specs.Arrays.{entryAt}
+use Rattle.prepare.proofs.Preorder.{array-length, array-words}
+use Rattle.prepare.proofs.grouping.Turns.{GroupsBefore, groups-none, groups-long, groups-end, groups-same, groups-more, group-depths, group-room, group-some}
 use Rattle.prepare.proofs.grouping.groups.Statement.{statement}
 use Rattle.prepare.proofs.grouping.groups.Tie as tie
 
 -- the numbers of a turn
-record Turn (order size cells : List ℕ) (cell next : ℕ) : Type 0 where
-  pub few : length order ≤ 1048576
-  pub sizes : length size ≡ length order
-  pub room : length cells ≡ 3 * length order
+record Turn (parents size cells : List ℕ) (cell next : ℕ) : Type 0 where
+  pub few : length parents ≤ mostEntries
+  pub sizes : length size ≡ length parents
+  pub room : length cells ≡ 3 * length parents
   pub used : cell ≤ 3 * next
 
 abbrev Inv-loop : tie.InvT-loop
-Inv-loop order depth size above cells₀ cell₀ next₀ cells cell next =
-    (next .0 ≤ length order)
-    × Turn order size cells cell (next .0)
-    × ((ps : List ℕ) → Members ps order depth size above → Gathered ps cells₀ (next .0) cell cells)
+Inv-loop parents order depth size above cells₀ cell₀ next₀ cells cell next = (next .0 ≤ length parents) × Turn parents size cells cell (next .0) × GroupsBefore parents cells₀ (next .0) cell cells
 
 abbrev μ-loop : tie.MeasureT-loop
-μ-loop order depth size above cells₀ cell₀ next₀ cells cell next = length order - next .0
+μ-loop parents order depth size above cells₀ cell₀ next₀ cells cell next = length parents - next .0
+
+abbrev start-of : tie.At-loop Inv-loop μ-loop → tie.Start Inv-loop μ-loop
+start-of l = l .before .before .before .before .before .before .before
 
 loop-holds : tie.Need-loop-holds Inv-loop μ-loop
 loop-holds c =
-    let s = c .before .before .before .before .before in
-    let (ps, m) = s .pre .0 in (
-      omega arith,
-      record {
-        few = let few = m .families .few in omega (arith, few, entries ps (s .args .order .now) (s .args .depth .now) (s .args .size .now) (s .args .above .now) m);
-        sizes = sizes-many ps (s .args .order .now) (s .args .depth .now) (s .args .size .now) (s .args .above .now) m;
-        room = s .pre .1;
-        used = omega arith;
-      },
-      λ ps m. gather-none ps (s .args .order .now) (s .args .depth .now) (s .args .size .now) (s .args .above .now) m (s .args .cells .now) (s .pre .1),
-    )
+    let s = c .before .before .before .before .before .before in
+    (omega arith, record { few = s .pre .0 .few; sizes = array-length (s .pre .0) _ _ (s .pre .3); room = s .pre .5; used = omega arith }, groups-none (s .pre .5))
 
-cast-number : tie.Need-cast-number Inv-loop μ-loop
-cast-number c = omega (arith, c .before .shared-slice-known5 .given (c .before .before .before .before .before .loop .next .0))
+-- a turn, once it has read its size
+abbrev Read : Type 0
+Read = tie.After-shared-slice-known6 Inv-loop μ-loop
+
+abbrev loop : Read → tie.At-loop Inv-loop μ-loop
+loop r = r .before .before .before .before
+
+abbrev start : Read → tie.Start Inv-loop μ-loop
+start r = start-of (loop r)
+
+abbrev at : Read → ℕ
+at r = loop r .loop .next .0
+
+here : (r : Read) → at r < length (start r .args .parents .now)
+here r = omega (arith, r .before .before .if1 .taken)
+
+word : (r : Read) → getD (start r .args .size .now) (at r) 0 ≡ size (start r .args .parents .now) (entryAt (start r .args .parents .now) (at r))
+word r = array-words (start r .pre .0) _ _ (start r .pre .3) (at r) (here r)
+
+-- the group ends within the order, past its root
+bounds : (r : Read) → (at r + getD (start r .args .size .now) (at r) 0 ≤ length (start r .args .parents .now)) × (0 < getD (start r .args .size .now) (at r) 0)
+bounds r =
+    let g = loop r .loop .inv .2 in
+    (group-room (start r .pre .0) g (here r) _ (word r), group-some (start r .pre .0) g (here r) _ (word r))
 
 slice-write-cells-2 : tie.Need-slice-write-cells-2 Inv-loop μ-loop
 slice-write-cells-2 c =
-    let l = c .before .before .before .before .before .before .loop in
+    let l = loop (c .before .before) .loop in
     omega (arith, length-set (l .cells) (l .cell) (l .next .0))
 
 slice-write-cells-3 : tie.Need-slice-write-cells-3 Inv-loop μ-loop
 slice-write-cells-3 c =
-    let l = c .before .before .before .before .before .before .before .loop in
+    let l = loop (c .before .before .before) .loop in
     omega (arith, length-set (set (l .cells) (l .cell) (l .next .0)) (l .cell + 1) (c .before .number .result), length-set (l .cells) (l .cell) (l .next .0))
-
-parent-word-requires : tie.Need-parent-word-requires Inv-loop μ-loop
-parent-word-requires c κs =
-    let s = c .before .before .before .before .before .before .before .before .before .before .before .before in
-    let (ps, m) = s .pre .0 in
-    ((ps, climbs-from ps (s .args .order .now) (s .args .depth .now) (s .args .size .now) (s .args .above .now) m), omega arith)
-
--- the group ends within the order, past its root
-bounds : (c : tie.After-struct-known3 Inv-loop μ-loop) → (c .before .before .before .before .before .before .before .before .loop .next .0 + getD (c .before .before .before .before .before .before .before .before .before .before .before .before .before .before .args .size .now) (c .before .before .before .before .before .before .before .before .loop .next .0) 0 ≤ length (c .before .before .before .before .before .before .before .before .before .before .before .before .before .before .args .order .now)) × (0 < getD (c .before .before .before .before .before .before .before .before .before .before .before .before .before .before .args .size .now) (c .before .before .before .before .before .before .before .before .loop .next .0) 0)
-bounds c =
-    let l = c .before .before .before .before .before .before .before .before .loop in
-    let s = c .before .before .before .before .before .before .before .before .before .before .before .before .before .before in
-    let (ps, m) = s .pre .0 in
-    let here = c .before .before .before .before .before .before .if1 .taken in
-    (group-room ps (s .args .order .now) (s .args .depth .now) (s .args .size .now) (s .args .above .now) m (s .args .cells .now) (l .next .0) (l .cell) (l .cells) here (l .inv .2 ps m), group-some ps (s .args .order .now) (s .args .depth .now) (s .args .size .now) (s .args .above .now) m (s .args .cells .now) (l .next .0) (l .cell) (l .cells) here (l .inv .2 ps m))
 
 loop-again : tie.Need-loop-again Inv-loop μ-loop
 loop-again c =
     let n = c .before .before .number in
     let p = c .before .parent-word in
-    let l = c .before .before .before .before .before .before .before .before .loop in
-    let s = c .before .before .before .before .before .before .before .before .before .before .before .before .before .before in
-    let here = c .before .before .before .before .before .before .if1 .taken in
-    let few = c .before .before .before .if2 .taken in (
-      bounds c .0,
-      record {
-        few = l .inv .1 .few;
-        sizes = l .inv .1 .sizes;
-        room = length-set (set (set (l .cells) (l .cell) (l .next .0)) (l .cell + 1) (n .result)) (l .cell + 2) (p .result) ∙ length-set (set (l .cells) (l .cell) (l .next .0)) (l .cell + 1) (n .result) ∙ length-set (l .cells) (l .cell) (l .next .0) ∙ l .inv .1 .room;
-        used = omega (arith, l .inv .1 .used, bounds c .1);
-      },
-      λ ps m.
-          let g = l .inv .2 ps m in
-          let k = group-size ps (s .args .order .now) (s .args .depth .now) (s .args .size .now) (s .args .above .now) m (s .args .cells .now) (l .next .0) (l .cell) (l .cells) here g in
-          let q = group-depths ps (s .args .order .now) (s .args .depth .now) (s .args .size .now) (s .args .above .now) m (s .args .cells .now) (l .next .0) (l .cell) (l .cells) here g in
-          gather-more ps (s .args .order .now) (s .args .depth .now) (s .args .size .now) (s .args .above .now) m (s .args .cells .now) (l .next .0) (l .cell) (l .cells) here g few (n .result) (p .result) (n .ensures .0 _ _ _ q k few) (p .ensures ps (climbs-from ps (s .args .order .now) (s .args .depth .now) (s .args .size .now) (s .args .above .now) m)),
-    )
+    let r = c .before .before .before .before in
+    let t = start r .pre .0 in
+    let l = loop r .loop in
+    let few = c .before .before .before .if2 .taken in
+    let shape = n .ensures .0 _ _ _ (group-depths t (l .inv .2) (here r) _ (start r .pre .2)) (word r) few in
+    let g = groups-more t (l .inv .2) (here r) _ (word r) few (n .result) (p .result) shape (p .ensures) in
+    (bounds r .0, record { few = l .inv .1 .few; sizes = l .inv .1 .sizes; room = groups-long t g; used = omega (arith, l .inv .1 .used, bounds r .1) }, g)
 
 loop-again-2 : tie.Need-loop-again-2 Inv-loop μ-loop
 loop-again-2 c =
-    let l = c .before .before .before .before .before .before .loop in
-    let s = c .before .before .before .before .before .before .before .before .before .before .before .before in (
-      omega arith,
-      record { few = l .inv .1 .few; sizes = l .inv .1 .sizes; room = l .inv .1 .room; used = omega arith },
-      λ ps m. gather-same ps (s .args .order .now) (s .args .depth .now) (s .args .size .now) (s .args .above .now) m (s .args .cells .now) (l .next .0) (l .cell) (l .cells) (omega arith) (l .inv .2 ps m) (c .before .if2 .left),
-    )
-
-same-length : tie.Need-same-length Inv-loop μ-loop
-same-length c = c .before .cells .given .1 ∙ c .before .before .before .before .before .before .loop .inv .1 .room ∙ sym (c .before .before .before .before .before .before .before .before .before .before .before .before .pre .1)
+    let r = c .before .before in
+    let (i, turn, g) = loop r .loop .inv in
+    (omega (arith, here r), record { few = turn .few; sizes = turn .sizes; room = turn .room; used = omega (arith, turn .used) }, groups-same (start r .pre .0) g (here r) _ (word r) (c .before .if2 .left))
 
 returns : tie.Need-returns Inv-loop μ-loop
-returns c ps m =
-    let l = c .before .before .before .before .before .before .loop in
-    let s = c .before .before .before .before .before .before .before .before .before .before .before .before in
+returns c =
+    let l = c .before .before .before .before .before .before in
     let z = c .before .before .set-all in
-    gather-end ps (s .args .order .now) (s .args .depth .now) (s .args .size .now) (s .args .above .now) m (s .args .cells .now) (l .next .0) (l .cell) (l .cells) (z .last .0) (omega arith) (l .inv .2 ps m) (z .ensures)
+    groups-end (start-of l .pre .0) (l .loop .inv .2) (omega (arith, c .before .before .before .before .if1 .left)) (z .last .0) (z .ensures)
 
 pub groups-spec : {M : Type 1} → statement M
 groups-spec =
@@ -123,18 +107,18 @@ groups-spec =
     (λ c. search needs)
     (λ c. search needs)
     (λ c. search needs)
-    cast-number
+    (λ c. omega (arith, c .before .shared-slice-known6 .given (loop (c .before) .loop .next .0)))
     (λ c κs. search needs)
     (λ c. search needs)
     (λ c. search needs)
     slice-write-cells-2
-    parent-word-requires
+    (λ c κs. let s = start (c .before .before) in (s .pre .0, s .pre .1, s .pre .4, here (c .before .before)))
     (λ c. search needs)
     (λ c. search needs)
     slice-write-cells-3
     (λ c. search needs)
-    (λ c. omega (arith, bounds c .0, c .before .before .before .before .before .before .before .before .loop .inv .1 .few))
-    (λ c. omega (arith, bounds c .0, bounds c .1))
+    (λ c. let r = c .before .before .before .before in omega (arith, bounds r .0, loop r .loop .inv .1 .few))
+    (λ c. let r = c .before .before .before .before in omega (arith, bounds r .0, bounds r .1))
     loop-again
     (λ c. search needs)
     (λ c. search needs)
@@ -144,5 +128,5 @@ groups-spec =
     (λ c. search needs)
     (λ c. search needs)
     (λ c κs. search needs)
-    same-length
+    (λ c. let l = c .before .before .before .before .before .before in c .before .cells .given .1 ∙ l .loop .inv .1 .room ∙ sym (start-of l .pre .5))
     returns)

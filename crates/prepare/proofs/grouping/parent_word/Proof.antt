@@ -1,36 +1,30 @@
 -- `grouping::parent_word` meets its contract: the entry above stands at the position that ABOVE names, and the first has none. Assumes nothing.
 use mathlib.Core.Path.{sym, ap, _∙_}
 use mathlib.Core.Option.{Option·getD}
+use Prim.Native.Nat.{ℕ}
 use native.Mathlib.Omega.{arith}
 use borrow.Author.Needs.{needs}
-use Rattle.tree.specs.Parents.{topMark, parent}
-use Rattle.prepare.specs.Arrays.{entryAt}
-use Rattle.prepare.proofs.Rising.{ord-length, overs-length}
-use Rattle.prepare.proofs.Gathering.{word-first, upper-less, word-next}
+use lib.ListN.{length, getD}
+use Rattle.tree.specs.Parents.{topMark}
+use Rattle.prepare.proofs.Preorder.{Over, order-many, first-none, over-at, array-length, array-words}
 use Rattle.prepare.proofs.grouping.parent_word.Statement.{statement}
 use Rattle.prepare.proofs.grouping.parent_word.Tie as tie
 
 returns : tie.Need-returns
-returns c ps t =
+returns c =
     let s = c .before .before in
-    word-first ps (s .args .order .now) (s .args .above .now) t (omega (arith, s .pre .1)) ∙ ap (λ i. Option·getD (parent ps (entryAt ps i)) topMark) (sym (c .if1 .taken))
+    rw (c .if1 .taken, first-none (s .pre .0))
 
-shared-slice-read-result : tie.Need-shared-slice-read-result
-shared-slice-read-result c =
+over : (c : tie.After-shared-slice-known) → (let s = c .before .before .before .before in (p : ℕ) × Over (s .args .parents .now) (s .args .at .0) (getD (s .args .above .now) (s .args .at .0) 0) p)
+over c =
     let s = c .before .before .before .before in
-    let (ps, t) = s .pre .0 in
-    omega (arith, s .pre .1, ord-length ps (s .args .order .now) (s .args .above .now) t, overs-length ps (s .args .order .now) (s .args .above .now) t)
-
-shared-slice-read-result-2 : tie.Need-shared-slice-read-result-2
-shared-slice-read-result-2 c =
-    let s = c .before .before .before .before .before .before in
-    let (ps, t) = s .pre .0 in
-    omega (arith, s .pre .1, upper-less ps (s .args .order .now) (s .args .above .now) t (s .args .at .0) (omega arith) (s .pre .1))
+    over-at (s .pre .0) (s .args .at .0) (s .pre .3) (array-words (s .pre .0) _ _ (s .pre .2) (s .args .at .0) (s .pre .3)) (omega arith)
 
 returns-2 : tie.Need-returns-2
-returns-2 c ps t =
+returns-2 c =
     let s = c .before .before .before .before .before .before in
-    word-next ps (s .args .order .now) (s .args .above .now) t (s .args .at .0) (omega arith) (s .pre .1)
+    let (p, o) = over (c .before .before) in
+    ap (λ l. getD l (getD (s .args .above .now) (s .args .at .0) 0) 0) (s .pre .1) ∙ o .there .entry ∙ sym (ap (λ q. Option·getD q topMark) (o .parent-is))
 
 pub parent-word-spec : {M : Type 1} → statement M
 parent-word-spec =
@@ -39,8 +33,8 @@ parent-word-spec =
     returns
     (λ c. search needs)
     (λ c. search needs)
-    shared-slice-read-result
+    (λ c. let s = c .before .before .before .before in omega (arith, s .pre .3, array-length (s .pre .0) _ _ (s .pre .2)))
     (λ c. search needs)
     (λ c. search needs)
-    shared-slice-read-result-2
+    (λ c. let s = c .before .before .before .before .before .before in omega (arith, over (c .before .before) .1 .there .low, ap length (s .pre .1) ∙ order-many (s .pre .0)))
     returns-2)

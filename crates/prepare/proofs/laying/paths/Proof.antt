@@ -2,190 +2,120 @@
 -- Assumes nothing.
 use mathlib.Core.Path.{_≡_, sym, ap, _∙_}
 use mathlib.Core.List.{List}
-use Prim.Native.Nat.{ℕ, _+_, _-_, _*_, _≤_}
+use mathlib.Core.Bool.{true, false}
+use Prim.Native.Nat.{ℕ, _+_, _-_, _*_, _≤_, _<_}
 use native.Mathlib.Omega.{arith}
 use borrow.Author.Needs.{needs}
 use lib.ListN.{length, getD}
-use Rattle.prepare.specs.Arrays.{Upright}
-use Rattle.prepare.proofs.Standing.{wide, height-kept, Standing, stand-none, stand-end, words-room, placed-so, paths-small, own-room, own-place, words-small, stand-top, stand-next}
+use Rattle.tree.specs.Forest.{height, pathTop}
+use Rattle.climbs.proofs.Ladders.{rise}
+use Rattle.prepare.specs.Arrays.{entryAt}
+use Rattle.prepare.proofs.laying.Turns.{PathsBefore, before-none, words-room, paths-end, places-end, rungs-end, paths-small, own-room, own-place, height-kept, words-small, before-top, before-next}
 use Rattle.prepare.proofs.laying.paths.Statement.{statement}
 use Rattle.prepare.proofs.laying.paths.Tie as tie
 
--- the lengths of a turn
-record Sizes (n : ℕ) (space cells : List ℕ) : Type 0 where
-  pub few : n ≤ 1048576
-  pub wide : length space ≡ 6 * n
-  pub room : length cells ≡ 2 * n
-
 abbrev Inv-loop : tie.InvT-loop
-Inv-loop n space₀ cells₀ paths₀ words₀ next₀ space cells paths words next =
-    (next .0 ≤ n) × Sizes n space cells × ((ps : List ℕ) → Upright ps space₀ → n ≡ length ps → Standing ps (next .0) paths words space cells)
+Inv-loop parents space₀ cells₀ n paths₀ words₀ next₀ space cells paths words next = (next .0 ≤ length parents) × PathsBefore parents (next .0) paths words space cells
 
 abbrev μ-loop : tie.MeasureT-loop
-μ-loop n space₀ cells₀ paths₀ words₀ next₀ space cells paths words next = n - next .0
+μ-loop parents space₀ cells₀ n paths₀ words₀ next₀ space cells paths words next = length parents - next .0
 
-loop-holds : tie.Need-loop-holds Inv-loop μ-loop
-loop-holds c =
-    let s = c .before .before in
-    let (ps, u, e) = s .pre .0 in
-    let few = u .few in (
-      omega arith,
-      record { few = omega (arith, few, e); wide = wide ps (s .args .space .now) (s .args .n) u e; room = s .pre .1 },
-      λ ps u e. stand-none ps (s .args .n) e (s .args .space .now) (s .args .cells .now) u (s .pre .1),
-    )
+abbrev Turn : Type 0
+Turn = tie.After-path-top Inv-loop μ-loop
 
-path-top-requires : tie.Need-path-top-requires Inv-loop μ-loop
-path-top-requires c κs =
-    let l = c .before .before .before .before .loop in
-    let s = c .before .before .before .before .before .before .before in
-    let (ps, u, e) = s .pre .0 in
-    let at = l .next .0 in
-    let st = l .inv .2 ps u e in
-    ((ps, st .upright, e), omega arith)
+abbrev loop : Turn → tie.At-loop Inv-loop μ-loop
+loop p = p .before .before .before .before .before
+
+abbrev list : tie.At-loop Inv-loop μ-loop → List ℕ
+list l = l .before .before .before .before .args .parents .now
+
+-- the entry of a turn
+abbrev entry : Turn → ℕ
+entry p = entryAt (list (loop p)) (loop p .loop .next .0)
+
+abbrev so : (p : Turn) → PathsBefore (list (loop p)) (loop p .loop .next .0) (loop p .loop .paths) (loop p .loop .words) (loop p .loop .space) (loop p .loop .cells)
+so p = loop p .loop .inv .1
+
+low : (p : Turn) → loop p .loop .next .0 < length (list (loop p))
+low p = omega (arith, p .before .before .before .if1 .taken)
+
+-- where a path starts
+top : (p : tie.Then2 Inv-loop μ-loop) → pathTop (list (loop (p .before))) (entry (p .before)) ≡ true
+top p = sym (p .before .path-top .ensures) ∙ p .if2 .taken
+
+own : (p : tie.Then2 Inv-loop μ-loop) → loop (p .before) .loop .words + rise (list (loop (p .before))) (entry (p .before)) < length (loop (p .before) .loop .cells)
+own p = omega (arith, own-place (so (p .before)) (low (p .before)) (top p), own-room (so (p .before)) (low (p .before)))
 
 top-place-requires : tie.Need-top-place-requires Inv-loop μ-loop
 top-place-requires c κs =
-    let l = c .before .before .before .before .before .before .before .before .loop in
-    let s = c .before .before .before .before .before .before .before .before .before .before .before in
-    let (ps, u, e) = s .pre .0 in
-    let at = l .next .0 in
-    let st = l .inv .2 ps u e in
-    let t = sym (c .before .before .before .path-top .ensures ps (st .upright) e) ∙ c .before .before .if2 .taken in (
-      (ps, st .upright, e, omega (arith, own-place ps (s .args .n) e at (l .paths) (l .words) (l .space) (l .cells) (omega arith) st t, own-room ps (s .args .n) e at (l .paths) (l .words) (l .space) (l .cells) (omega arith) st)),
-      omega arith,
-      omega (arith, l .inv .1 .room, l .inv .1 .few),
-    )
+    let p = c .before .before in
+    let b = so (p .before) in
+    (b .pathed, own p, low (p .before), omega (arith, b .rungs .size, b .pathed .linked .walked .few))
 
 settle-requires : tie.Need-settle-requires Inv-loop μ-loop
 settle-requires c κs =
-    let l = c .before .before .before .before .before .before .before .before .before .before .before .before .before .loop in
-    let s = c .before .before .before .before .before .before .before .before .before .before .before .before .before .before .before .before in
-    let (ps, u, e) = s .pre .0 in
-    let at = l .next .0 in
-    let st = l .inv .2 ps u e in
-    let t = sym (c .before .before .before .before .before .before .before .before .path-top .ensures ps (st .upright) e) ∙ c .before .before .before .before .before .before .before .if2 .taken in
-    let (own, risen) = c .before .before .before .before .top-place .ensures ps (st .upright) e in (
-      l .inv .1 .wide,
-      l .inv .1 .few,
-      omega arith,
-      omega (arith, own, risen .same, own-place ps (s .args .n) e at (l .paths) (l .words) (l .space) (l .cells) (omega arith) st t, own-room ps (s .args .n) e at (l .paths) (l .words) (l .space) (l .cells) (omega arith) st),
-    )
+    let a = c .before .before .before .before in
+    let p = a .before .before .before in
+    let w = so (p .before) .pathed .linked .walked in
+    (w .room, w .few, low (p .before), omega (arith, own p, a .top-place .ensures .0, a .top-place .ensures .1 .same))
 
-read-height : tie.Need-slice-read-words Inv-loop μ-loop
-read-height c = omega (arith, c .before .before .before .before .before .before .settle .kept .1 .0, c .before .before .before .before .before .before .before .before .before .before .before .before .before .before .before .before .before .before .before .before .loop .inv .1 .wide)
+-- its place, and its height
+abbrev laid : tie.After-slice-known6 Inv-loop μ-loop → tie.After-settle Inv-loop μ-loop
+laid c = c .before .before .before .before .before .before
+
+abbrev placed : tie.After-slice-known6 Inv-loop μ-loop → tie.After-top-place Inv-loop μ-loop
+placed c = laid c .before .before .before .before .before
+
+abbrev begun : tie.After-slice-known6 Inv-loop μ-loop → tie.Then2 Inv-loop μ-loop
+begun c = placed c .before .before .before
+
+high : (c : tie.After-slice-known6 Inv-loop μ-loop) → (let p = begun c .before in
+    getD (laid c .settle .last .1 .0) (4 * length (list (loop p)) + loop p .loop .next .0) 0 ≡ height (list (loop p)) (entry p))
+high c =
+    let p = begun c .before in
+    ap (λ x. getD x (4 * length (list (loop p)) + loop p .loop .next .0) 0) (laid c .settle .ensures .0) ∙ height-kept (so p) (low p) _
 
 add-height : tie.Need-add-words-2 Inv-loop μ-loop
-add-height c =
-    let l = c .before .before .before .before .before .before .before .before .before .before .before .before .before .before .before .before .before .before .before .before .loop in
-    let s = c .before .before .before .before .before .before .before .before .before .before .before .before .before .before .before .before .before .before .before .before .before .before .before in
-    let (ps, u, e) = s .pre .0 in
-    let at = l .next .0 in
-    let st = l .inv .2 ps u e in
-    let t = sym (c .before .before .before .before .before .before .before .before .before .before .before .before .before .before .before .path-top .ensures ps (st .upright) e) ∙ c .before .before .before .before .before .before .before .before .before .before .before .before .before .before .if2 .taken in
-    let own = c .before .before .before .before .before .before .before .before .before .before .before .top-place .ensures ps (st .upright) e .0 in
-    let high = ap (λ x. getD x (4 * s .args .n + at) 0) (c .before .before .before .before .before .before .settle .ensures .0) ∙ height-kept ps (l .space) (s .args .n) (st .upright) e at _ (omega arith) in
-    omega (arith, own, high, words-small ps (s .args .n) e at (l .paths) (l .words) (l .space) (l .cells) (omega arith) st t)
-
-add-paths : tie.Need-add-paths Inv-loop μ-loop
-add-paths c =
-    let l = c .before .before .before .before .before .before .before .before .before .before .before .before .before .before .before .before .before .before .before .before .loop in
-    let s = c .before .before .before .before .before .before .before .before .before .before .before .before .before .before .before .before .before .before .before .before .before .before .before in
-    let (ps, u, e) = s .pre .0 in
-    let at = l .next .0 in
-    let st = l .inv .2 ps u e in
-    omega (arith, paths-small ps (s .args .n) e at (l .paths) (l .words) (l .space) (l .cells) (omega arith) st, l .inv .1 .few)
+add-height c = let p = begun c in omega (arith, placed c .top-place .ensures .0, high c, words-small (so (p .before)) (low (p .before)) (top p))
 
 loop-again : tie.Need-loop-again Inv-loop μ-loop
 loop-again c =
-    let l = c .before .before .before .before .before .before .before .before .before .before .before .before .before .before .before .before .before .before .before .before .loop in
-    let s = c .before .before .before .before .before .before .before .before .before .before .before .before .before .before .before .before .before .before .before .before .before .before .before in
-    let n = s .args .n in
-    let at = l .next .0 in
-    let low = c .before .before .before .before .before .before .before .before .before .before .before .before .before .before .before .before .before .before .if1 .taken in
-    let settle = c .before .before .before .before .before .before .settle in
-    let top = c .before .before .before .before .before .before .before .before .before .before .before .top-place in (
-      omega arith,
-      record {
-        few = l .inv .1 .few;
-        wide = settle .kept .1 .0 ∙ l .inv .1 .wide;
-        room = settle .kept .1 .1 .1 .1 .0 ∙ top .kept .1 .1 .1 .1 .0 ∙ l .inv .1 .room;
-      },
-      λ ps u e.
-          let st = l .inv .2 ps u e in
-          let t = sym (c .before .before .before .before .before .before .before .before .before .before .before .before .before .before .before .path-top .ensures ps (st .upright) e) ∙ c .before .before .before .before .before .before .before .before .before .before .before .before .before .before .if2 .taken in
-          let (own, risen) = top .ensures ps (st .upright) e in
-          let high = ap (λ x. getD x (4 * n + at) 0) (settle .ensures .0) ∙ height-kept ps (l .space) n (st .upright) e at (top .result) low in
-          stand-top ps n e at (l .paths) (l .words) (l .space) (l .cells) low st t (top .result) _ _ _ _ own high risen (settle .ensures .0) (settle .ensures .1),
-    )
+    let p = begun c in
+    let (place, risen) = placed c .top-place .ensures in
+    let (a, b) = laid c .settle .ensures in
+    (omega (arith, low (p .before)), before-top (so (p .before)) (low (p .before)) (top p) _ _ _ _ _ place (high c) risen a b)
 
-next-place-requires : tie.Need-next-place-requires Inv-loop μ-loop
-next-place-requires c κs =
-    let l = c .before .before .before .before .before .before .before .loop in
-    let s = c .before .before .before .before .before .before .before .before .before .before in
-    let (ps, u, e) = s .pre .0 in
-    let at = l .next .0 in
-    let st = l .inv .2 ps u e in
-    let t = sym (c .before .before .path-top .ensures ps (st .upright) e) ∙ c .before .if2 .left in
-    ((ps, st .upright, e, t, placed-so ps (s .args .n) e at (l .paths) (l .words) (l .space) (l .cells) (omega arith) st), omega arith)
+-- where one goes on
+goes : (p : tie.Else2 Inv-loop μ-loop) → pathTop (list (loop (p .before))) (entry (p .before)) ≡ false
+goes p = sym (p .before .path-top .ensures) ∙ p .if2 .left
 
 settle-requires-2 : tie.Need-settle-requires-2 Inv-loop μ-loop
 settle-requires-2 c κs =
-    let l = c .before .before .before .before .before .before .before .before .before .before .loop in
-    let s = c .before .before .before .before .before .before .before .before .before .before .before .before .before in
-    let (ps, u, e) = s .pre .0 in
-    let at = l .next .0 in
-    let st = l .inv .2 ps u e in
-    let t = sym (c .before .before .before .before .before .path-top .ensures ps (st .upright) e) ∙ c .before .before .before .before .if2 .left in
-    let own = c .before .before .next-place .ensures ps (st .upright) e t (placed-so ps (s .args .n) e at (l .paths) (l .words) (l .space) (l .cells) (omega arith) st) in (
-      l .inv .1 .wide,
-      l .inv .1 .few,
-      omega arith,
-      omega (arith, own, own-room ps (s .args .n) e at (l .paths) (l .words) (l .space) (l .cells) (omega arith) st),
-    )
+    let a = c .before .before in
+    let p = a .before .before .before in
+    let w = so p .pathed .linked .walked in
+    (w .room, w .few, low p, omega (arith, a .next-place .ensures, own-room (so p) (low p)))
 
 loop-again-2 : tie.Need-loop-again-2 Inv-loop μ-loop
 loop-again-2 c =
-    let l = c .before .before .before .before .before .before .before .before .before .before .before .before .before .before .before .loop in
-    let s = c .before .before .before .before .before .before .before .before .before .before .before .before .before .before .before .before .before .before in
-    let n = s .args .n in
-    let at = l .next .0 in
-    let settle = c .before .before .before .before .settle2 in
-    let next = c .before .before .before .before .before .before .before .next-place in (
-      omega arith,
-      record {
-        few = l .inv .1 .few;
-        wide = settle .kept .1 .0 ∙ l .inv .1 .wide;
-        room = settle .kept .1 .1 .1 .1 .0 ∙ l .inv .1 .room;
-      },
-      λ ps u e.
-          let st = l .inv .2 ps u e in
-          let t = sym (c .before .before .before .before .before .before .before .before .before .before .path-top .ensures ps (st .upright) e) ∙ c .before .before .before .before .before .before .before .before .before .if2 .left in
-          let own = next .ensures ps (st .upright) e t (placed-so ps n e at (l .paths) (l .words) (l .space) (l .cells) (omega arith) st) in
-          stand-next ps n e at (l .paths) (l .words) (l .space) (l .cells) (omega arith) st (next .result) _ _ t own (settle .ensures .0) (settle .ensures .1),
-    )
+    let s = c .before .before .before .before in
+    let a = s .before .before .before in
+    let p = a .before .before .before in
+    (omega (arith, low p), before-next (so p) (low p) _ _ _ (goes (a .before .before)) (a .next-place .ensures) (s .settle2 .ensures .0) (s .settle2 .ensures .1))
 
 -- the words of all ladders fit the section
 fits : (c : tie.Else1 Inv-loop μ-loop) → c .before .before .loop .words ≤ length (c .before .before .loop .cells)
-fits c =
-    let l = c .before .before .loop in
-    let s = c .before .before .before .before .before in
-    let (ps, u, e) = s .pre .0 in
-    words-room ps (s .args .n) e (l .next .0) (l .paths) (l .words) (l .space) (l .cells) (l .inv .0) (l .inv .2 ps u e)
+fits c = words-room (c .before .before .loop .inv .1) (c .before .before .loop .inv .0)
 
-same-length : tie.Need-same-length Inv-loop μ-loop
-same-length c =
-    let s = c .before .before .before .before .before .before .before .before .before in
-    let (ps, u, e) = s .pre .0 in
-    c .before .before .before .before .before .before .loop .inv .1 .wide ∙ sym (wide ps (s .args .space .now) (s .args .n) u e)
-
-same-length-2 : tie.Need-same-length-2 Inv-loop μ-loop
-same-length-2 c = c .before .cells4 .given .1 ∙ c .before .before .before .before .before .before .loop .inv .1 .room ∙ sym (c .before .before .before .before .before .before .before .before .before .pre .1)
+abbrev ended : tie.After-slice-known9 Inv-loop μ-loop → tie.At-loop Inv-loop μ-loop
+ended c = c .before .before .before .before .before .before
 
 returns : tie.Need-returns Inv-loop μ-loop
-returns c ps u e =
-    let l = c .before .before .before .before .before .before .loop in
+returns c =
+    let l = ended c .loop in
     let z = c .before .before .set-all in
-    stand-end ps (c .before .before .before .before .before .before .before .before .before .args .n) e (l .next .0) (l .paths) (l .words) (l .space) (l .cells) (z .last .0) (omega arith) (l .inv .2 ps u e) (z .ensures)
+    let all : l .next .0 ≡ length (list (ended c)) = omega (arith, l .inv .0, c .before .before .before .before .if1 .left) in
+    (paths-end (l .inv .1) all, (places-end (l .inv .1) all, rungs-end (l .inv .1) all (z .last .0) (z .ensures)))
 
 pub paths-spec : {M : Type 1} → statement M
 paths-spec =
@@ -193,22 +123,22 @@ paths-spec =
     (tie.spec
     Inv-loop
     μ-loop
-    loop-holds
+    (λ c. let s = c .before .before .before in (omega arith, before-none _ (s .pre .0) (s .pre .1)))
     (λ c. search needs)
     (λ c. search needs)
-    path-top-requires
+    (λ c κs. (c .before .before .before .before .loop .inv .1 .pathed, omega arith))
     top-place-requires
     settle-requires
     (λ c. search needs)
     (λ c. search needs)
     (λ c. search needs)
     (λ c. search needs)
-    read-height
+    (λ c. omega (arith, laid c .settle .kept .1 .0, so (begun c .before) .pathed .linked .walked .room))
     add-height
-    add-paths
+    (λ c. let p = begun c .before in omega (arith, paths-small (so p) (low p), so p .pathed .linked .walked .few))
     (λ c. search needs)
     loop-again
-    next-place-requires
+    (λ c κs. let p = c .before .before in (so p .pathed, goes (c .before), so p .placed, low p))
     settle-requires-2
     (λ c. search needs)
     loop-again-2
@@ -218,6 +148,6 @@ paths-spec =
     (λ c. omega (arith, fits c))
     (λ c. search needs)
     (λ c κs. search needs)
-    same-length
-    same-length-2
+    (λ c. ended c .loop .inv .1 .pathed .linked .walked .room ∙ sym (ended c .before .before .before .before .pre .0 .linked .walked .room))
+    (λ c. c .before .cells4 .given .1 ∙ ended c .loop .inv .1 .rungs .size ∙ sym (ended c .before .before .before .before .pre .1))
     returns)

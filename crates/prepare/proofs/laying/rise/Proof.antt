@@ -1,67 +1,65 @@
 -- `laying::rise` meets its contract: after k climbs the k nearest ancestors are written. Assumes nothing.
 use mathlib.Core.Path.{_≡_, sym, ap, _∙_}
-use mathlib.Core.List.{List}
 use mathlib.Core.Option.{some}
-use Prim.Native.Nat.{ℕ, _-_, _≤_, _<_}
+use Prim.Native.Nat.{_+_, _-_, _≤_, _<_}
 use native.Mathlib.Omega.{arith}
 use borrow.Author.Needs.{needs}
-use lib.ListN.{length, length-set}
-use Rattle.tree.specs.Parents.{depth}
-use Rattle.prepare.specs.Arrays.{entryAt, Climbs, Risen}
-use Rattle.prepare.proofs.Rising.{Climbed, ord-length, overs-length, ord-word, climbed-none, climbed-on, risen-none, risen-more}
+use lib.ListN.{length, getD, length-set}
+use Rattle.prepare.specs.Arrays.{entryAt, Risen}
+use Rattle.prepare.proofs.Preorder.{order-many, holds-at, array-length, array-words}
+use Rattle.prepare.proofs.laying.Rungs.{Climbed, climbed-none, climbed-more, risen-none, risen-more, risen-by}
 use Rattle.prepare.proofs.laying.rise.Statement.{statement}
 use Rattle.prepare.proofs.laying.rise.Tie as tie
 
 abbrev Inv-loop : tie.InvT-loop
-Inv-loop order above place count cells₀ at₀ k₀ cells at k =
+Inv-loop parents order above place count cells₀ at₀ k₀ cells at k =
     (k ≤ count)
     × (length above ≡ length order)
     × (length cells ≡ length cells₀)
     × (at .0 < length order)
-    × ((ps : List ℕ) → Climbs ps order above → count ≤ depth ps (entryAt ps (at₀ .0)) → Climbed ps (entryAt ps (at₀ .0)) k (at .0) × Risen ps (entryAt ps (at₀ .0)) place k cells₀ cells)
+    × Climbed parents (entryAt parents (at₀ .0)) k (at .0)
+    × Risen parents (entryAt parents (at₀ .0)) place k cells₀ cells
 
 abbrev μ-loop : tie.MeasureT-loop
-μ-loop order above place count cells₀ at₀ k₀ cells at k = count - k
+μ-loop parents order above place count cells₀ at₀ k₀ cells at k = count - k
+
+all : (s : tie.Start Inv-loop μ-loop) → length (s .args .order .now) ≡ length (s .args .parents .now)
+all s = ap length (s .pre .1) ∙ order-many (s .pre .0)
 
 loop-holds : tie.Need-loop-holds Inv-loop μ-loop
-loop-holds c =
-    let a = c .args in
-    let (ps, t, b) = c .pre .0 in (
-      omega arith,
-      overs-length ps (a .order .now) (a .above .now) t ∙ sym (ord-length ps (a .order .now) (a .above .now) t),
-      omega arith,
-      c .pre .1,
-      λ ps t b. (climbed-none ps (a .order .now) (a .above .now) t (a .top .0) (omega (arith, c .pre .1, ord-length ps (a .order .now) (a .above .now) t)), risen-none ps _ (a .place) (a .cells .now)),
-    )
+loop-holds s =
+    let (t, e, a, b, h, m, r) = s .pre in
+    (omega arith, array-length t _ _ a ∙ sym (all s), omega arith, h, climbed-none t (s .args .top .0) (omega (arith, all s)), risen-none _ _ (s .args .place) (s .args .cells .now))
+
+-- one climb further
+next : (c : tie.After-shared-slice-known2 Inv-loop μ-loop) → (let l = c .before .before .before .before .before in
+    let a = l .before .args in
+    Climbed (a .parents .now) (entryAt (a .parents .now) (a .top .0)) (l .loop .k + 1) (getD (a .above .now) (l .loop .at .0) 0))
+next c =
+    let l = c .before .before .before .before .before in
+    let s = l .before in
+    let (t, e, a, b, h, m, r) = s .pre in
+    let up = l .loop .inv .4 in
+    climbed-more t (array-words t _ _ a (l .loop .at .0) (up .inside)) (holds-at t (s .args .top .0) (omega (arith, all s)) .inside) (omega arith) up
 
 shared-slice-read-cells-2 : tie.Need-shared-slice-read-cells-2 Inv-loop μ-loop
-shared-slice-read-cells-2 c =
-    let l = c .before .before .before .before .before .loop in
-    let s = c .before .before .before .before .before .before in
-    let a = s .args in
-    let (ps, t, b) = s .pre .0 in
-    omega (arith, climbed-on ps (a .order .now) (a .above .now) t (a .top .0) (l .k) (l .at .0) (s .pre .1) (omega (arith, b)) (l .inv .4 ps t b .0) .inside, ord-length ps (a .order .now) (a .above .now) t)
+shared-slice-read-cells-2 c = omega (arith, next c .inside, all (c .before .before .before .before .before .before))
 
 loop-again : tie.Need-loop-again Inv-loop μ-loop
 loop-again c =
     let l = c .before .before .before .before .before .loop in
     let s = c .before .before .before .before .before .before in
-    let a = s .args in (
+    let (t, e, a, b, h, m, r) = s .pre in (
       omega arith,
       l .inv .1,
       length-set (l .cells) _ _ ∙ l .inv .2,
       shared-slice-read-cells-2 c,
-      λ ps t b.
-          let next = climbed-on ps (a .order .now) (a .above .now) t (a .top .0) (l .k) (l .at .0) (s .pre .1) (omega (arith, b)) (l .inv .4 ps t b .0) in
-          (next, risen-more ps _ (a .place) (l .k) (a .cells .now) (l .cells) _ (omega (arith, s .pre .2)) (s .pre .3) (next .reached ∙ ap some (sym (ord-word ps (a .order .now) (a .above .now) t _))) (l .inv .4 ps t b .1)),
+      next c,
+      risen-more _ _ (s .args .place) (l .k) (s .args .cells .now) (l .cells) _ (omega arith) r (next c .reached ∙ ap some (sym (ap (λ x. getD x (getD (s .args .above .now) (l .at .0) 0) 0) e))) (l .inv .5),
     )
 
 returns : tie.Need-returns Inv-loop μ-loop
-returns c ps t b =
-    let l = c .before .loop in
-    let a = c .before .before .args in
-    let z : l .k ≡ a .count = omega arith in
-    rw z at (l .inv .4 ps t b .1)
+returns c = risen-by _ _ (omega arith) (c .before .loop .inv .5)
 
 pub rise-spec : {M : Type 1} → statement M
 rise-spec =

@@ -1,114 +1,68 @@
--- `measure::measures` meets its contract: each position has the measures of what hangs below its entry from the end on. Assumes nothing.
-use mathlib.Core.Path.{_≡_, sym, _∙_}
-use mathlib.Core.List.{List}
-use Prim.Native.Nat.{ℕ, suc, _*_, _-_, _≤_, _<_}
+-- `measure::measures` meets its contract: each position has the measures of what is below its entry from the end on. Assumes nothing.
+use mathlib.Core.Path.{sym, _∙_}
+use Prim.Native.Nat.{suc, _-_, _≤_, _<_}
 use native.Mathlib.Omega.{arith}
 use borrow.Author.Needs.{needs}
 use lib.ListN.{length}
-use Rattle.base.specs.Lists.{view}
-use Rattle.prepare.specs.Arrays.{Aboves}
-use Rattle.prepare.proofs.Growing.{Growing, started-front, started-aboves, rebased, grow-none, over-word, over-low, sum-small, rise-small, grow, grown}
+use Rattle.prepare.proofs.measure.Turns.{MeasuredFrom, from-by, from-end, from-first, over-low, sum-small, rise-small, from-next}
 use Rattle.prepare.proofs.measure.measures.Statement.{statement}
 use Rattle.prepare.proofs.measure.measures.Tie as tie
 
 abbrev Inv-loop : tie.InvT-loop
-Inv-loop n space₀ end₀ space end =
-    (end .0 ≤ n) × (length space ≡ 6 * n) × (n ≤ 1048576) × ((ps : List ℕ) → Aboves ps (view (3 * n) n space₀) → n ≡ length ps → Growing ps n (end .0) space₀ space)
+Inv-loop parents space₀ n end₀ space end = (end .0 ≤ length parents) × MeasuredFrom parents (end .0) space
 
 abbrev μ-loop : tie.MeasureT-loop
-μ-loop n space₀ end₀ space end = end .0
+μ-loop parents space₀ n end₀ space end = end .0
 
-alone-requires : tie.Need-alone-requires Inv-loop μ-loop
-alone-requires c κs =
-    let s = c .before .before in
-    let (ps, d, e) = s .pre .0 in
-    let few = d .few in
-    (s .pre .1, omega (arith, few, e))
+abbrev start-of : tie.After-alone Inv-loop μ-loop → tie.Start Inv-loop μ-loop
+start-of a = a .before .before .before .before
 
-cast-end : tie.Need-cast-t9 Inv-loop μ-loop
-cast-end c =
-    let (ps, d, e) = c .before .before .before .before .before .pre .0 in
-    let few = d .few in
-    omega (arith, few, e)
+abbrev start : tie.At-loop Inv-loop μ-loop → tie.Start Inv-loop μ-loop
+start l = start-of (l .before .before .before)
 
 loop-holds : tie.Need-loop-holds Inv-loop μ-loop
 loop-holds c =
-    let s = c .before .before .before .before .before in
-    let alone = c .before .before .alone in
-    let (ps, d, e) = s .pre .0 in
-    let few = d .few in
-    (omega arith, alone .kept .1 .0 ∙ s .pre .1, omega (arith, few, e), λ ps d e. grow-none (s .args .n) (s .args .space .now) (s .pre .1) _ (alone .ensures) ps d e)
+    let a = c .before .before in
+    (omega arith, from-end (start-of a .pre) _ (a .alone .ensures))
+
+-- the position that a turn is at
+record Turn (t : tie.Then1 Inv-loop μ-loop) : Type 0 where
+  low : 0 < t .before .before .loop .end .0 - 1
+  high : t .before .before .loop .end .0 - 1 < length (start (t .before .before) .args .parents .now)
+  from : MeasuredFrom (start (t .before .before) .args .parents .now) (suc (t .before .before .loop .end .0 - 1)) (t .before .before .loop .space)
+
+turn : (t : tie.Then1 Inv-loop μ-loop) → Turn t
+turn t = record { low = omega (arith, t .if1 .taken); high = omega (arith, t .if1 .taken, t .before .before .loop .inv .0); from = from-by (omega (arith, t .if1 .taken)) (t .before .before .loop .inv .1) }
 
 count-requires : tie.Need-count-requires Inv-loop μ-loop
 count-requires c κs =
-    let l = c .before .before .before .before .before .before .loop in
-    let s = c .before .before .before .before .before .before .before .before .before .before .before .before in
-    let alone = c .before .before .before .before .before .before .before .before .before .alone in
-    let old = alone .last .1 .0 in
-    let n = s .args .n in
-    let at = l .end .0 - 1 in
-    let (ps, b, e) = s .pre .0 in
-    let d = rebased n (s .args .space .now) (s .pre .1) old (alone .ensures) ps b in
-    let g = l .inv .3 ps d e in
-    let word = over-word ps old n d e (l .space) (l .end .0) at (omega arith) (omega arith) (omega arith) g in (
-      l .inv .1,
-      l .inv .2,
-      omega arith,
-      omega (arith, word, over-low ps old n d e (l .space) (l .end .0) at (omega arith) (omega arith) (omega arith) g),
-      rw word (sum-small ps old n d e (l .space) (l .end .0) at (omega arith) (omega arith) (omega arith) g),
-    )
+    let t = c .before .before .before .before in
+    let w = t .before .before .loop .inv .1 .linked .walked in
+    let u = turn t in
+    let less = over-low _ (u .low) (u .high) (u .from) in
+    (w .room, w .few, u .high, omega (arith, u .high, less), sum-small _ (u .low) (u .high) (u .from))
 
 lift-requires : tie.Need-lift-requires Inv-loop μ-loop
 lift-requires c κs =
-    let l = c .before .before .before .before .before .before .before .before .before .before .loop in
-    let s = c .before .before .before .before .before .before .before .before .before .before .before .before .before .before .before .before in
-    let alone = c .before .before .before .before .before .before .before .before .before .before .before .before .before .alone in
-    let old = alone .last .1 .0 in
-    let n = s .args .n in
-    let at = l .end .0 - 1 in
-    let (ps, b, e) = s .pre .0 in
-    let d = rebased n (s .args .space .now) (s .pre .1) old (alone .ensures) ps b in
-    let g = l .inv .3 ps d e in
+    let t = c .before .before .before .before .before .before .before .before in
+    let w = t .before .before .loop .inv .1 .linked .walked in
+    let u = turn t in
     let count = c .before .before .before .count in
-    let word = over-word ps old n d e (l .space) (l .end .0) at (omega arith) (omega arith) (omega arith) g in (
-      count .kept .1 .0 ∙ l .inv .1,
-      l .inv .2,
-      omega arith,
-      omega (arith, word, over-low ps old n d e (l .space) (l .end .0) at (omega arith) (omega arith) (omega arith) g),
-      rw (count .ensures, word) (rise-small ps old n d e (l .space) (l .end .0) at (omega arith) (omega arith) (omega arith) g),
-    )
+    let less = over-low _ (u .low) (u .high) (u .from) in
+    (count .kept .1 .0 ∙ w .room, w .few, u .high, omega (arith, u .high, less), rw (count .ensures) (rise-small _ (u .low) (u .high) (u .from)))
 
 loop-again : tie.Need-loop-again Inv-loop μ-loop
 loop-again c =
-    let l = c .before .before .before .before .before .before .before .before .before .before .before .before .before .loop in
-    let s = c .before .before .before .before .before .before .before .before .before .before .before .before .before .before .before .before .before .before .before in
-    let alone = c .before .before .before .before .before .before .before .before .before .before .before .before .before .before .before .before .alone in
-    let old = alone .last .1 .0 in
-    let n = s .args .n in
-    let at = l .end .0 - 1 in
-    let low = c .before .before .before .before .before .before .before .before .before .before .before .if1 .taken in
+    let t = c .before .before .before .before .before .before .before .before .before .before .before in
+    let u = turn t in
     let count = c .before .before .before .before .before .before .count in
-    let lift = c .before .before .lift in (
-      omega arith,
-      lift .kept .1 .0 ∙ count .kept .1 .0 ∙ l .inv .1,
-      l .inv .2,
-      λ ps d e.
-          let g = l .inv .3 ps d e in
-          let s : l .end .0 ≡ suc at = omega (arith, low) in
-          let b : 0 < at = omega (arith, low) in
-          let h : at < n = omega (arith, low, l .inv .0) in
-          grow ps old n d e (l .space) (l .end .0) at s b h g _ _ _ (over-word ps old n d e (l .space) (l .end .0) at s b h g) (count .ensures) (lift .ensures .0) (lift .ensures .1),
-    )
+    let lift = c .before .before .lift in
+    (omega (arith, u .high), from-next _ (u .low) (u .high) (u .from) _ _ (count .ensures) (lift .ensures .0) (lift .ensures .1))
 
 returns : tie.Need-returns Inv-loop μ-loop
-returns c ps b e =
+returns c =
     let l = c .before .before .loop in
-    let s = c .before .before .before .before .before .before .before .before in
-    let alone = c .before .before .before .before .before .alone in
-    let old = alone .last .1 .0 in
-    let n = s .args .n in
-    let d = rebased n (s .args .space .now) (s .pre .1) old (alone .ensures) ps b in
-    grown ps old n d e (s .args .space .now) (started-front n (s .args .space .now) (s .pre .1) old (alone .ensures)) (started-aboves n (s .args .space .now) (s .pre .1) old (alone .ensures)) (l .space) (l .end .0) (omega arith) (l .inv .3 ps d e)
+    from-first (l .end .0) (omega (arith, c .if1 .left)) (l .inv .1)
 
 pub measures-spec : {M : Type 1} → statement M
 measures-spec =
@@ -116,8 +70,8 @@ measures-spec =
     (tie.spec
     Inv-loop
     μ-loop
-    alone-requires
-    cast-end
+    (λ c κs. let w = c .before .before .before .pre .walked in (w .room, w .few))
+    (λ c. let w = start-of (c .before .before) .pre .walked in omega (arith, w .few))
     loop-holds
     (λ c. search needs)
     (λ c. search needs)
@@ -129,5 +83,5 @@ measures-spec =
     lift-requires
     (λ c. search needs)
     loop-again
-    (λ c. c .before .before .loop .inv .1 ∙ sym (c .before .before .before .before .before .before .before .before .pre .1))
+    (λ c. c .before .before .loop .inv .1 .linked .walked .room ∙ sym (start (c .before .before) .pre .walked .room))
     returns)

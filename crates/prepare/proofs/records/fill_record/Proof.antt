@@ -1,34 +1,30 @@
 -- `records::fill_record` meets its contract. Assumes nothing.
-use mathlib.Core.Path.{_∙_}
-use Prim.Native.Nat.{_+_}
+use mathlib.Core.Path.{refl, _∙_}
+use Prim.Native.Nat.{_+_, _*_}
 use native.Mathlib.Omega.{arith}
 use borrow.Author.Needs.{needs}
+use lib.ListN.{length}
 use Rattle.base.specs.Limits.{groupLimit}
-use Rattle.base.proofs.Puts.{lent-back}
-use Rattle.table.specs.Groups.{jumpRecord}
+use Rattle.base.proofs.Puts.{lent-back, lent}
 use Rattle.climbs.proofs.Words.{jump-wide}
-use Rattle.prepare.proofs.Recording.{reaching-of, depth-word}
+use Rattle.prepare.proofs.records.Rows.{depth-word}
 use Rattle.prepare.proofs.records.fill_record.Statement.{statement}
 use Rattle.prepare.proofs.records.fill_record.Tie as tie
 
 record-requires : tie.Need-record-requires
 record-requires c κs =
     let s = c .before .before .before .before .before .before .before in
-    let ps = s .args .parents .now in
+    let n = length (s .args .parents .now) in
     let t = s .args .table .now in
+    let l = s .args .ladders in
     let r = s .pre .0 in
-    (ps, reaching-of ps (s .args .ladders) t r, s .pre .1, depth-word ps (s .args .ladders) t r (s .args .v .0) (s .pre .1))
+    (r .one, lent (4 + 2 * n) (4 + 2 * n + n) n t _ refl (r .places), lent l (l + 2 * n) (2 * n) t _ refl (r .rungs), s .pre .1, depth-word r (s .args .v .0) (s .pre .1))
 
 returns : tie.Need-returns
 returns c =
-    let s = c .before .before .before .before .before .before .before .before .before .before .before .before .before in
-    let ps = s .args .parents .now in
-    let t = s .args .table .now in
-    let r = s .pre .0 in
-    let v = s .args .v .0 in
-    lent-back (s .args .at) (s .args .at + 21) t _ (jumpRecord ps v)
-    (c .before .before .copy .ensures ∙ c .before .before .before .before .before .record .ensures ps (reaching-of ps (s .args .ladders) t r) (s .pre .1) (depth-word ps (s .args .ladders) t r v (s .pre .1)))
-    (omega (arith, jump-wide groupLimit ps v))
+    let r = c .before .before .before .before .before in
+    let s = r .before .before .before .before .before .before .before .before in
+    lent-back (s .args .at) (s .args .at + 21) (s .args .table .now) _ _ (c .before .before .copy .ensures ∙ r .record .ensures) (omega (arith, jump-wide groupLimit (s .args .parents .now) (s .args .v .0)))
 
 pub fill-record-spec : {M : Type 1} → statement M
 fill-record-spec =

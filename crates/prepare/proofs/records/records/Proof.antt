@@ -1,49 +1,28 @@
 -- `records::records` meets its contract: the loop has laid the records of the first i entries. Assumes nothing.
-use mathlib.Core.Path.{_≡_, refl}
 use Prim.Native.Nat.{_-_}
 use native.Mathlib.Omega.{arith}
 use borrow.Author.Needs.{needs}
 use lib.ListN.{length}
-use Rattle.prepare.proofs.Recording.{Recorded, recorded-none, record-room, recorded-more, recorded-all}
+use Rattle.prepare.proofs.records.Rows.{RowsBefore, rows-none, rows-room, rows-next, rows-all}
 use Rattle.prepare.proofs.records.records.Statement.{statement}
 use Rattle.prepare.proofs.records.records.Tie as tie
 
 abbrev Inv-loop : tie.InvT-loop
-Inv-loop parents table₀ ladders first nodes at₀ i₀ table at i = Recorded parents ladders first nodes table₀ table at i
+Inv-loop parents table₀ ladders first nodes at₀ i₀ table at i = RowsBefore parents ladders first nodes table₀ table at i
 
 abbrev μ-loop : tie.MeasureT-loop
 μ-loop parents table₀ ladders first nodes at₀ i₀ table at i = length nodes - i
 
-loop-holds : tie.Need-loop-holds Inv-loop μ-loop
-loop-holds c =
-    let s = c .before .before .before in
-    recorded-none (s .args .parents .now) (s .args .ladders) (s .args .first) (s .args .nodes .now) (s .args .table .now) (s .pre .3) (s .pre .1) (s .pre .2) (s .pre .0)
-
 fill-record-requires : tie.Need-fill-record-requires Inv-loop μ-loop
 fill-record-requires c κs =
     let l = c .before .before .before .loop in
-    let s = c .before .before .before .before .before .before .before in (
-      l .inv .reached,
-      s .pre .4 (l .i) (omega arith),
-      record-room (s .args .parents .now) (s .args .ladders) (s .args .first) (s .args .nodes .now) (s .args .table .now) (s .pre .3) (s .pre .1) (s .pre .2) (l .table) (l .at) (l .i) (omega arith) (l .inv),
-    )
+    let s = c .before .before .before .before .before .before .before in
+    (l .inv .reached, s .pre .4 (l .i) (omega arith), rows-room (l .inv) (omega arith))
 
 loop-again : tie.Need-loop-again Inv-loop μ-loop
 loop-again c =
-    let l = c .before .before .before .before .before .before .loop in
-    let s = c .before .before .before .before .before .before .before .before .before .before in
     let f = c .before .before .fill-record in
-    recorded-more (s .args .parents .now) (s .args .ladders) (s .args .first) (s .args .nodes .now) (s .args .table .now) (s .pre .3) (s .pre .1) (s .pre .2) (l .table) (l .at) (l .i) (omega arith) (l .inv) (f .last .1 .0) (f .ensures) (f .kept .1 .0)
-
-same-length : tie.Need-same-length Inv-loop μ-loop
-same-length c =
-    c .before .loop .inv .long
-
-returns : tie.Need-returns Inv-loop μ-loop
-returns c =
-    let l = c .before .loop in
-    let s = c .before .before .before .before .before in
-    recorded-all (s .args .parents .now) (s .args .ladders) (s .args .first) (s .args .nodes .now) (s .args .table .now) (s .pre .3) (s .pre .1) (s .pre .2) (l .table) (l .at) (l .i) (omega arith) (l .inv)
+    rows-next (c .before .before .before .before .before .before .loop .inv) (omega arith) (f .last .1 .0) (f .ensures) (f .kept .1 .0)
 
 pub records-spec : {M : Type 1} → statement M
 records-spec =
@@ -51,7 +30,7 @@ records-spec =
     (tie.spec
     Inv-loop
     μ-loop
-    loop-holds
+    (λ c. let s = c .before .before .before in rows-none (s .pre .3) (s .pre .1) (s .pre .2) (s .pre .0))
     (λ c. search needs)
     (λ c. search needs)
     fill-record-requires
@@ -59,5 +38,5 @@ records-spec =
     (λ c. search needs)
     (λ c. search needs)
     loop-again
-    same-length
-    returns)
+    (λ c. c .before .loop .inv .long)
+    (λ c. rows-all (c .before .loop .inv) (omega arith)))

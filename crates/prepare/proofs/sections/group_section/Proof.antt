@@ -1,36 +1,35 @@
 -- `sections::group_section` meets its contract. Assumes nothing.
-use mathlib.Core.Path.{ap, _∙_}
-use Prim.Native.Nat.{_+_, _*_, _≤_}
+use mathlib.Core.Path.{_∙_}
+use Prim.Native.Nat.{_+_, _*_}
 use native.Mathlib.Omega.{arith}
 use borrow.Author.Needs.{needs}
 use borrow.Rule.Slice.PartMut.{mid-len}
 use lib.ListN.{length}
-use Rattle.base.proofs.Puts.{lent-back}
-use Rattle.prepare.specs.Arrays.{Grouped}
-use Rattle.prepare.proofs.Staging.{members-of}
+use Rattle.base.proofs.Puts.{lent, came-back}
+use Rattle.prepare.proofs.Space.{tree-of}
 use Rattle.prepare.proofs.sections.group_section.Statement.{statement}
 use Rattle.prepare.proofs.sections.group_section.Tie as tie
 
 groups-requires : tie.Need-groups-requires
 groups-requires c κs =
     let s = c .before .before .before .before .before .before .before .before in
-    let ps = s .args .parents .now in
-    let n = length ps in
-    let xs = s .args .space .now in (
-      (ps, members-of ps xs (s .pre .0)),
-      omega (arith, mid-len (4 + 8 * n) (4 + 8 * n + 3 * n) (s .args .table .now) (omega (arith, s .pre .1)), mid-len 0 n xs (omega (arith, s .pre .0 .walked .room))),
+    let n = length (s .args .parents .now) in
+    let xs = s .args .space .now in
+    let d = s .pre .0 .pathed .linked in (
+      tree-of (d .walked),
+      lent 0 n n xs _ (omega arith) (d .walked .orders),
+      lent n (2 * n) n xs _ (omega arith) (d .walked .depths),
+      lent (2 * n) (3 * n) n xs _ (omega arith) (s .pre .0 .sizes),
+      lent (3 * n) (4 * n) n xs _ (omega arith) (d .aboves),
+      mid-len (4 + 8 * n) (4 + 8 * n + 3 * n) (s .args .table .now) (omega (arith, s .pre .1)) ∙ omega arith,
     )
 
 returns : tie.Need-returns
-unfolding Grouped
 returns c =
     let s = c .before .before .before .before .before .before .before .before .before .before .before in
-    let ps = s .args .parents .now in
-    let n = length ps in
+    let n = length (s .args .parents .now) in
     let r = c .before .before .groups in
-    let laid = r .ensures ps (members-of ps (s .args .space .now) (s .pre .0)) in
-    let same = r .kept .1 .1 .1 .1 .0 ∙ mid-len (4 + 8 * n) (4 + 8 * n + 3 * n) (s .args .table .now) (omega (arith, s .pre .1)) in
-    lent-back (4 + 8 * n) (4 + 8 * n + 3 * n) (s .args .table .now) _ _ laid (omega (arith, ap length laid, same))
+    came-back (4 + 8 * n) (3 * n) (s .args .table .now) _ _ (omega (arith, s .pre .1)) (r .kept .1 .1 .1 .1 .1 .0) (r .ensures)
 
 pub group-section-spec : {M : Type 1} → statement M
 group-section-spec =

@@ -1,5 +1,4 @@
 -- `sections::header_cells` meets its contract. Assumes nothing.
-use native.Mathlib.Omega.{arith}
 use mathlib.Core.Path.{refl}
 use borrow.Author.Needs.{needs}
 use Rattle.base.proofs.Puts.{lent-back}

@@ -5,19 +5,21 @@ use borrow.Author.Needs.{needs}
 use lib.ListN.{length}
 use Rattle.base.specs.Lists.{below, put}
 use Rattle.table.specs.Ladders.{ladPos}
-use Rattle.prepare.proofs.Assembly.{laddered}
+use Rattle.prepare.proofs.Space.{tree-of}
+use Rattle.prepare.proofs.sections.Whole.{laddered}
 use Rattle.prepare.proofs.sections.path_sections.Statement.{statement}
 use Rattle.prepare.proofs.sections.path_sections.Tie as tie
 
 returns : tie.Need-returns
 returns c =
-    let s = c .before .before .before .before .before .before .before .before .before .before .before .before .before .before .before in
+    let k = c .before .before .before .before .before .before .before .before .before in
+    let s = k .before .before .before .before .before .before in
     let ps = s .args .parents .now in
     let n = length ps in
-    let w = s .pre .0 .walked in
-    let p = c .before .before .before .before .before .before .before .before .before .ladder-section in
-    let laid = c .before .before .by-entry .ensures (ladPos ps) (p .ensures .1 .0 .places) ∙ ap (λ l. put l (4 + 2 * n) (below n (ladPos ps))) (p .ensures .1 .1) in
-    (p .ensures .0, (p .ensures .1 .0 .walked, rw laid (laddered ps (s .args .table .now) (s .pre .1) (w .few) (w .tree) (s .pre .2))))
+    let (paths, laid-so) = k .ladder-section .ensures in
+    let laid = c .before .before .by-entry .ensures (ladPos ps) (laid-so .0 .places) ∙ ap (λ l. put l (4 + 2 * n) (below n (ladPos ps))) (laid-so .1) in
+    let w = laid-so .0 .pathed .linked .walked in
+    (paths, (w, rw laid (laddered ps (s .args .table .now) (tree-of w) (s .pre .1) (s .pre .2))))
 
 pub path-sections-spec : {M : Type 1} → statement M
 path-sections-spec =

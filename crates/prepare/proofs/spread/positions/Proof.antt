@@ -1,41 +1,40 @@
 -- `spread::positions` meets its contract: the loop has written the positions before `at`. Assumes nothing.
-use mathlib.Core.Path.{refl}
-use Prim.Native.Nat.{_-_}
+use mathlib.Core.Path.{_≡_, refl, ap, _∙_, sym}
+use Prim.Native.Nat.{_-_, _≤_, _<_}
 use native.Mathlib.Omega.{arith}
 use borrow.Author.Needs.{needs}
-use lib.ListN.{length}
+use lib.ListN.{length, getD}
 use Rattle.tree.specs.Forest.{position}
-use Rattle.prepare.specs.Arrays.{Placed}
-use Rattle.prepare.proofs.Spreading.{Written, written-none, written-room, written-more, written-all}
+use Rattle.prepare.specs.Arrays.{entryAt}
+use Rattle.prepare.proofs.Preorder.{order-many}
+use Rattle.prepare.proofs.spread.Writes.{Written, written-none, written-room, written-more, written-all}
 use Rattle.prepare.proofs.spread.positions.Statement.{statement}
 use Rattle.prepare.proofs.spread.positions.Tie as tie
 
 abbrev Inv-loop : tie.InvT-loop
-Inv-loop order cells₀ at₀ cells at = Written order (λ k. k) cells₀ (at .0) cells
+Inv-loop parents order cells₀ at₀ cells at = (at .0 ≤ length parents) × (length order ≡ length parents) × Written parents (λ k. k) (at .0) cells
 
 abbrev μ-loop : tie.MeasureT-loop
-μ-loop order cells₀ at₀ cells at = length order - at .0
+μ-loop parents order cells₀ at₀ cells at = length parents - at .0
 
-slice-write-cells : tie.Need-slice-write-cells Inv-loop μ-loop
-slice-write-cells c =
-    let l = c .before .before .before .before .before .loop in
-    let s = c .before .before .before .before .before .before in
-    written-room (s .args .order .now) _ (s .args .cells .now) (s .pre .0) (l .at .0) (l .cells) (omega arith) (l .inv)
+abbrev loop : tie.After-struct-known3 Inv-loop μ-loop → tie.At-loop Inv-loop μ-loop
+loop c = c .before .before .before .before .before
+
+here : (c : tie.After-struct-known3 Inv-loop μ-loop) → loop c .loop .at .0 < length (loop c .before .args .parents .now)
+here c = omega (arith, c .before .before .before .if1 .taken)
+
+entry : (c : tie.After-struct-known3 Inv-loop μ-loop) → getD (loop c .before .args .order .now) (loop c .loop .at .0) 0 ≡ entryAt (loop c .before .args .parents .now) (loop c .loop .at .0)
+entry c = ap (λ l. getD l (loop c .loop .at .0) 0) (loop c .before .pre .1)
 
 loop-again : tie.Need-loop-again Inv-loop μ-loop
 loop-again c =
-    let l = c .before .before .before .before .before .before .loop in
-    let s = c .before .before .before .before .before .before .before in
-    written-more (s .args .order .now) _ (s .args .cells .now) (s .pre .0) (l .at .0) (l .cells) (omega arith) (l .inv) _ refl
+    let l = loop (c .before) in
+    (omega (arith, here (c .before)), l .loop .inv .1, written-more (l .before .pre .0) (l .loop .inv .2) (here (c .before)) _ (entry (c .before)) _ refl)
 
 returns : tie.Need-returns Inv-loop μ-loop
-unfolding Placed
-returns c ps few tree ord =
-    let l = c .before .before .loop in
-    let s = c .before .before .before in
-    written-all ps few tree (s .args .order .now) ord (position ps) (λ k. k)
-    (λ v h. refl)
-    (s .args .cells .now) (l .at .0) (l .cells) (s .pre .0 .room) (omega arith) (l .inv)
+returns c =
+    let l = c .before .before in
+    written-all (l .before .pre .0) (l .loop .inv .2) (omega (arith, c .if1 .left)) (position _) (λ v h. refl)
 
 pub positions-spec : {M : Type 1} → statement M
 positions-spec =
@@ -43,16 +42,16 @@ positions-spec =
     (tie.spec
     Inv-loop
     μ-loop
-    (λ c. written-none (c .args .order .now) (λ k. k) (c .args .cells .now))
+    (λ s. (omega arith, ap length (s .pre .1) ∙ order-many (s .pre .0), written-none _ _ (s .args .cells .now) (s .pre .2)))
     (λ c. search needs)
     (λ c. search needs)
     (λ c. search needs)
     (λ c. search needs)
     (λ c. search needs)
     (λ c. search needs)
-    slice-write-cells
+    (λ c. let l = loop c in written-room (l .before .pre .0) (l .loop .inv .2) (here c) _ (entry c))
     (λ c. search needs)
     (λ c. search needs)
     loop-again
-    (λ c. c .before .before .loop .inv .1)
+    (λ c. c .before .before .loop .inv .2 .room ∙ sym (c .before .before .before .pre .2))
     returns)

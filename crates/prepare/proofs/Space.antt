@@ -1,0 +1,74 @@
+-- The working space while the table is filled: what its regions hold, and what a store leaves. Assumes nothing.
+use mathlib.Core.Path.{_≡_, refl, ap, _∙_}
+use mathlib.Core.Logic.{_⊎_, inl, inr, ⊎-elim}
+use mathlib.Core.List.{List, [], _∷_}
+use Prim.Native.Nat.{ℕ, _+_, _*_, _-_, _≤_, _<_}
+use native.Mathlib.Omega.{arith}
+use borrow.Rule.Slice.PartMut.{midOf, putMid}
+use lib.ListN.{length, getD, set}
+use Rattle.base.specs.Lists.{view, put}
+use Rattle.base.proofs.Puts.{lent-back, put-length, put-view, lent, Apart, stays, set-put}
+use Rattle.base.proofs.Views.{view-at}
+use Rattle.tree.specs.Parents.{depth}
+use Rattle.prepare.specs.Arrays.{OneTree, entryAt, depthsOf, abovesOf}
+use Rattle.prepare.specs.Stages.{Walked, Linked, Pathed}
+use Rattle.prepare.proofs.Preorder.{array-length}
+
+module _ {ps space : List ℕ} (w : Walked ps space) where
+  pub tree-of : OneTree ps
+  tree-of = record { few = w .few; tree = w .tree }
+
+  -- region 0
+  pub entry-word : (i : ℕ) → i < length ps → getD space i 0 ≡ entryAt ps i
+  entry-word i h = view-at 0 (length ps) space i i h (omega arith) ∙ ap (λ l. getD l i 0) (w .orders)
+
+-- words put behind regions 0 and 1, apart from region 3, and in region 2
+module _ {ps space : List ℕ} (a : ℕ) (x : List ℕ) (low : 2 * length ps ≤ a) (high : a + length x ≤ 6 * length ps) where
+  module _ (w : Walked ps space) where
+    pub fits : a + length x ≤ length space
+    fits = omega (arith, w .room)
+
+    pub walked-put : Walked ps (put space a x)
+    walked-put = record {
+      few = w .few;
+      tree = w .tree;
+      room = put-length space a x fits ∙ w .room;
+      orders = stays space a x fits 0 (length ps) (inl (omega arith)) ∙ w .orders;
+      depths = stays space a x fits (length ps) (length ps) (inl (omega arith)) ∙ w .depths;
+    }
+
+  pub linked-put : Apart a (length x) (3 * length ps) (length ps) → Linked ps space → Linked ps (put space a x)
+  linked-put o d = record { walked = walked-put (d .walked); aboves = stays space a x (fits (d .walked)) (3 * length ps) (length ps) o ∙ d .aboves }
+
+  pub pathed-put : a + length x ≤ 3 * length ps → Pathed ps space → Pathed ps (put space a x)
+  pathed-put b p =
+      let room = fits (p .linked .walked) in
+      record {
+        linked = linked-put (inr b) (p .linked);
+        heights = stays space a x room (4 * length ps) (length ps) (inr (omega arith)) ∙ p .heights;
+        longs = stays space a x room (5 * length ps) (length ps) (inr (omega arith)) ∙ p .longs;
+      }
+
+-- one word
+module _ {ps space : List ℕ} (k x : ℕ) (low : 2 * length ps ≤ k) where
+  pub linked-set : k < 6 * length ps → (k < 3 * length ps) ⊎ (4 * length ps ≤ k) → Linked ps space → Linked ps (set space k x)
+  linked-set h o d = rw (set-put space k x (omega (arith, d .walked .room))) (linked-put k (x ∷ []) low (omega arith) (⊎-elim (λ b. inr (omega arith)) (λ b. inl (omega arith)) o) d)
+
+  pub pathed-set : k < 3 * length ps → Pathed ps space → Pathed ps (set space k x)
+  pathed-set h p = rw (set-put space k x (omega (arith, p .linked .walked .room))) (pathed-put k (x ∷ []) low (omega arith) (omega arith) p)
+
+-- region 3, lent and filled, and the depths, carried to the cells of DEPTH
+module _ {ps space : List ℕ} (w : Walked ps space) where
+  abbrev n : ℕ
+  n = length ps
+
+  pub linked-of : (x : List ℕ) → x ≡ abovesOf ps → Linked ps (putMid (3 * n) (4 * n - 3 * n) space x)
+  linked-of x e =
+      let wide = array-length (tree-of w) _ x e in
+      rw (lent-back (3 * n) (4 * n) space x x refl (omega arith))
+      (record { walked = walked-put (3 * n) x (omega arith) (omega arith) w; aboves = put-view space (3 * n) x (omega (arith, w .room)) n wide ∙ e })
+
+  pub depths-of : (table new : List ℕ) → 4 + n ≤ length table → new ≡ put table 4 (view n n space) → midOf 4 (4 + n - 4) new ≡ depthsOf ps
+  depths-of table new room e =
+      let wide = array-length (tree-of w) (depth ps) (depthsOf ps) refl in
+      lent 4 (4 + n) n new _ (omega arith) (ap (view 4 n) (e ∙ ap (put table 4) (w .depths)) ∙ put-view table 4 (depthsOf ps) (omega arith) n wide)

@@ -1,0 +1,2 @@
+-- GROUPS.
+pub mod Turns

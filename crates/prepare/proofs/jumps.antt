@@ -1,0 +1,3 @@
+-- The jump entries, and the record of each.
+pub mod Ancestors
+pub mod Nodes

@@ -1,0 +1,2 @@
+-- KIND.
+pub mod Turns

@@ -1,0 +1,4 @@
+-- LADPOS and LADDERS.
+pub mod Rungs
+pub mod Tops
+pub mod Turns

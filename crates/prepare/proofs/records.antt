@@ -1,0 +1,2 @@
+-- JUMPS.
+pub mod Rows

@@ -1,0 +1,2 @@
+-- The sections of the table.
+pub mod Whole
