@@ -6,6 +6,7 @@ ghost use lib.ListN.{length};
 ghost use Rattle.tree.specs.Parents.{topMark, parent};
 ghost use Rattle.table.specs.Table.{groupCells};
 ghost use Rattle.prepare.specs.Arrays.{OneTree, entryAt, entriesOf, depthsOf, sizesOf, abovesOf};
+use crate::places::GROUP_WORDS;
 use base::Position;
 use base::limits::GROUP_LIMIT;
 use base::limits::TOP_MARK;
@@ -44,7 +45,7 @@ pub(crate) fn groups(
             cells[cell] = at.0;
             cells[cell + 1] = shapes::number(depth, at, entries as usize);
             cells[cell + 2] = parent_word(parents, order, above, at);
-            cell += 3;
+            cell += GROUP_WORDS;
             next = Position(at.0 + entries);
         } else {
             next = Position(at.0 + 1);

@@ -14,6 +14,7 @@ use crate::places::ABOVES;
 use crate::places::HEADER_CELLS;
 use crate::places::JUMP_NODES;
 use crate::places::JUMPS;
+use crate::places::LADDER_WORDS;
 use crate::places::LADDERS;
 use crate::places::LADPOS;
 use crate::places::ORDER;
@@ -31,7 +32,7 @@ fn fill_record(parents: &[u32], table: &mut [u32], ladders: usize, at: usize, v:
     let n = parents.len();
     let a = HEADER_CELLS + LADPOS * n;
     let b = a + n;
-    let end = ladders + 2 * n;
+    let end = ladders + LADDER_WORDS * n;
     let deep = table[HEADER_CELLS + v.0 as usize];
     let words = record(parents, &table[a..b], &table[ladders..end], deep, v);
     copy(&words[..], &mut table[at..at + RECORD_WORDS]);

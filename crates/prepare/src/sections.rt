@@ -4,7 +4,7 @@ ghost use mathlib.Core.List.{[], _∷_};
 ghost use Prim.Native.Nat.{_+_, _*_, _≤_};
 ghost use lib.ListN.{length};
 ghost use Rattle.base.specs.Lists.{below, put};
-ghost use Rattle.base.specs.Limits.{tableWords, groupLimit, kindStart, preStart, laddersStart, groupsStart, mostEntries};
+ghost use Rattle.base.specs.Limits.{tableWords, groupLimit, kindStart, preStart, laddersStart, groupsStart, mostEntries, headerOf};
 ghost use Rattle.tree.specs.Forest.{position};
 ghost use Rattle.table.specs.Groups.{groupRoots, jumpNodes, kind};
 ghost use Rattle.table.specs.Ladders.{pathTops};
@@ -14,9 +14,11 @@ use crate::kinds::Counts;
 use crate::parts::by_entry;
 use crate::parts::carry;
 use crate::places::ABOVES;
+use crate::places::GROUP_WORDS;
 use crate::places::GROUPS;
 use crate::places::HEADER_CELLS;
 use crate::places::HEIGHTS;
+use crate::places::LADDER_WORDS;
 use crate::places::LADDERS;
 use crate::places::LADPOS;
 use crate::places::ORDER;
@@ -25,6 +27,7 @@ use crate::places::PRE;
 use crate::places::SIZE;
 use crate::places::SIZES;
 use crate::spread::copy;
+use base::limits::header_of;
 
 // KIND.
 fn kind_section(parents: &[u32], table: &mut [u32], space: &[u32]) -> Counts
@@ -50,7 +53,7 @@ fn group_section(parents: &[u32], table: &mut [u32], space: &[u32])
 {
     let n = parents.len();
     let a = HEADER_CELLS + GROUPS * n;
-    let b = a + 3 * n;
+    let b = a + GROUP_WORDS * n;
     crate::grouping::groups(
         parents,
         &space[0..n],
@@ -83,7 +86,7 @@ fn ladder_section(parents: &[u32], table: &mut [u32], space: &mut [u32]) -> u32
 {
     let n = parents.len();
     let a = HEADER_CELLS + LADDERS * n;
-    let b = a + 2 * n;
+    let b = a + LADDER_WORDS * n;
     crate::laying::paths(parents, space, &mut table[a..b])
 }
 
@@ -125,8 +128,13 @@ pub(crate) fn order_sections(parents: &[u32], table: &mut [u32], space: &[u32])
 // Cells 0 to 3.
 pub(crate) fn header_cells(parents: &[u32], counts: Counts, paths: u32, table: &mut [u32])
     requires { ⌜ (length (now parents) ≤ mostEntries) × (4 ≤ length (now table)) ⌝ }
-    ensures { λ _. ⌜ now (table .exit) ≡ put (now (table .entry)) 0 (length (now (parents .entry)) ∷ counts .jumps ∷ counts .groups ∷ paths ∷ []) ⌝ }
+    ensures { λ _. ⌜ now (table .exit) ≡ put (now (table .entry)) 0 (headerOf (length (now (parents .entry))) ∷ counts .jumps ∷ counts .groups ∷ paths ∷ []) ⌝ }
 {
-    let cells = [parents.len() as u32, counts.jumps, counts.groups, paths];
+    let cells = [
+        header_of(parents.len() as u32),
+        counts.jumps,
+        counts.groups,
+        paths,
+    ];
     copy(&cells[..], &mut table[0..HEADER_CELLS]);
 }
