@@ -9,7 +9,7 @@ use native.Mathlib.Nat.{two-pow-succ, pow-le-pow-right}
 use borrow.Author.Count.{below-more}
 use lib.ListN.{length, getD, set, length-set, replicate, length-replicate, getD-replicate}
 use lib.Seq.{getD-set-same, getD-set-other, ext-getD}
-use Rattle.base.specs.Limits.{mostEntries, groupLimit}
+use Rattle.base.specs.Limits.{mostEntries, groupLimit, recordWords}
 use Rattle.base.specs.Lists.{below}
 use Rattle.base.proofs.Lists.{below-at, each-length}
 use Rattle.base.proofs.Joined.{padded-length, padded-in}
@@ -42,15 +42,15 @@ pub record RecordBefore (ps : List ℕ) (v : ℕ) (r : List ℕ) (w s t e : ℕ)
   pub less : s ≤ t
   pub near : 2 * s ≤ t + 1
   pub reached : up ps (t - s) v ≡ some w
-  pub room : length r ≡ 21
+  pub room : length r ≡ recordWords
   pub words : (k : ℕ) → k < e → getD r k 0 ≡ getD (jumpRecord ps v) k 0
-  pub zeros : (k : ℕ) → e ≤ k → k < 21 → getD r k 0 ≡ 0
+  pub zeros : (k : ℕ) → e ≤ k → k < recordWords → getD r k 0 ≡ 0
 
 module _ {ps : List ℕ} (t : OneTree ps) (v : ℕ) (hv : v < length ps) where
   pub depth-small : depth ps v < mostEntries
   depth-small = let few = t .few in omega (arith, few, depth-less ps (small t) (t .tree) v hv)
 
-  pub record-none : (r : List ℕ) (d : ℕ) → d ≡ depth ps v → r ≡ set (replicate 21 0) 0 d → RecordBefore ps v r v 1 1 1
+  pub record-none : (r : List ℕ) (d : ℕ) → d ≡ depth ps v → r ≡ set (replicate recordWords 0) 0 d → RecordBefore ps v r v 1 1 1
   unfolding up
   record-none r d e q = record {
     started = omega arith;
@@ -58,27 +58,27 @@ module _ {ps : List ℕ} (t : OneTree ps) (v : ℕ) (hv : v < length ps) where
     less = omega arith;
     near = omega arith;
     reached = entry-in ps v hv;
-    room = rw q (length-set (replicate {A = ℕ} 21 0) 0 d ∙ length-replicate {A = ℕ} 21 0);
+    room = rw q (length-set (replicate {A = ℕ} recordWords 0) 0 d ∙ length-replicate {A = ℕ} recordWords 0);
     words = λ k h. let z : k ≡ 0 = omega arith in rw (z, q) (e ∙ sym (record-first ps v));
-    zeros = λ k h b. rw q (getD-set-other (replicate {A = ℕ} 21 0) 0 k d 0 (λ z. omega arith) ∙ getD-replicate {A = ℕ} 21 k 0 0 b);
+    zeros = λ k h b. rw q (getD-set-other (replicate {A = ℕ} recordWords 0) 0 k d 0 (λ z. omega arith) ∙ getD-replicate {A = ℕ} recordWords k 0 0 b);
   }
 
   module _ {r : List ℕ} {w s far e : ℕ} (d : RecordBefore ps v r w s far e) where
     -- all of them
-    pub record-end : 21 ≤ e → r ≡ jumpRecord ps v
+    pub record-end : recordWords ≤ e → r ≡ jumpRecord ps v
     record-end h = ext-getD 0 r (jumpRecord ps v) (d .room ∙ sym (jump-wide groupLimit ps v)) (λ k b. d .words k (omega (arith, d .room)))
 
     -- no ancestor is as far up
     pub record-stop : depth ps v < far → r ≡ jumpRecord ps v
     record-stop h = ext-getD 0 r (jumpRecord ps v) (d .room ∙ sym (jump-wide groupLimit ps v)) (λ k b. go k (omega (arith, d .room)) (decLt k e))
       where
-        past : (k : ℕ) → e ≤ k → k < 21 → getD (jumpRecord ps v) k 0 ≡ 0
+        past : (k : ℕ) → e ≤ k → k < recordWords → getD (jumpRecord ps v) k 0 ≡ 0
         past zero b l = absurd (omega (arith, d .started))
         past (suc k) b l =
             let p : 2 ^ (e - 1) ≤ 2 ^ k = pow-le-pow-right (omega arith) (omega arith) in
             record-next ps v k (omega arith) ∙ ap (λ o. Option·getD o 0) (up-none ps (small t) (t .tree) (2 ^ k) v (omega (arith, d .far)))
 
-        go : (k : ℕ) → k < 21 → Dec (k < e) → getD r k 0 ≡ getD (jumpRecord ps v) k 0
+        go : (k : ℕ) → k < recordWords → Dec (k < e) → getD r k 0 ≡ getD (jumpRecord ps v) k 0
         go k l (yes b) = d .words k b
         go k l (no b) = d .zeros k (omega arith) l ∙ sym (past k (omega arith) l)
 
@@ -130,7 +130,7 @@ module _ {ps : List ℕ} (t : OneTree ps) (v : ℕ) (hv : v < length ps) where
             far-is : far ≡ 2 ^ j
             far-is = d .far ∙ ap (λ k. 2 ^ k) (omega arith)
 
-            word-is : e < 21 → x ≡ getD (jumpRecord ps v) e 0
+            word-is : e < recordWords → x ≡ getD (jumpRecord ps v) e 0
             word-is h = sym (ap (λ k. getD (jumpRecord ps v) k 0) z ∙ record-next ps v j (omega arith) ∙ ap (λ k. Option·getD (up ps k v) 0) (sym far-is) ∙ ap (λ o. Option·getD o 0) x-up)
 
             far-next : far + far ≡ 2 ^ ((e + 1) - 1)
@@ -138,7 +138,7 @@ module _ {ps : List ℕ} (t : OneTree ps) (v : ℕ) (hv : v < length ps) where
                 let y : suc j ≡ (e + 1) - 1 = omega arith in
                 omega (arith, far-is, two-pow-succ j) ∙ ap (λ k. 2 ^ k) y
 
-          pub record-more : e < 21 → RecordBefore ps v (set r e x) x far (far + far) (e + 1)
+          pub record-more : e < recordWords → RecordBefore ps v (set r e x) x far (far + far) (e + 1)
           record-more h =
               let z : e ≡ suc (e - 1) = omega (arith, d .started) in
               let y : (far + far) - far ≡ far = omega arith in

@@ -6,6 +6,7 @@ use mathlib.Core.Option.{Option, none, some, Option·elim, Option·some-injectiv
 use Prim.Native.Nat.{ℕ, _+_, _*_, _≤_, _<_}
 use native.Mathlib.Omega.{arith}
 use lib.ListN.{length, getD}
+use Rattle.base.specs.Limits.{mostEntries}
 use Rattle.tree.specs.Parents.{topMark}
 use Rattle.tree.specs.Forest.{position, longChild, pathTop}
 use Rattle.tree.proofs.Climbing.{parent-some}
@@ -88,5 +89,5 @@ module _ {ps space : List ℕ} (u : Pathed ps space) where
       pub next-place : getD space (2 * n + up-from i) 0 + 1 ≡ ladPos ps (entryAt ps i)
       next-place = omega (arith, place-above, ladpos-next ps little (tree-in .tree) (entryAt ps i) (from .0) (from .1 .parent-is) goes)
 
-      pub next-small : getD space (2 * n + up-from i) 0 ≤ 2097152
+      pub next-small : getD space (2 * n + up-from i) 0 ≤ 2 * mostEntries
       next-small = omega (arith, place-above, ladpos-in ps little (tree-in .tree) (from .0) (from .1 .there .inside), ladders-fit ps little (tree-in .tree), tree-in .few)

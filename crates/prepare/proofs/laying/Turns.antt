@@ -9,6 +9,7 @@ use borrow.Author.Count.{below-more}
 use borrow.Rule.Slice.PartMut.{midOf, putMid}
 use lib.ListN.{length, getD, set, take, replicate, length-append, length-take}
 use lib.Seq.{getD-set-same, getD-set-other}
+use Rattle.base.specs.Limits.{mostEntries}
 use Rattle.base.proofs.Keeping.{keep-most}
 use Rattle.base.proofs.Puts.{wiped}
 use Rattle.tree.specs.Parents.{topMark}
@@ -104,7 +105,7 @@ module _ {ps : List ℕ} {i paths words : ℕ} {space cells : List ℕ} (s : Pat
       rungs-next : rungsWithin ps (i + 1) ≡ words + rise ps v + height ps v
       rungs-next = rw (add-one i) (omega (arith, rungs-more ps little (t .tree) i v h refl top, s .words-are))
 
-      pub words-small : words + rise ps v + height ps v ≤ 2097152
+      pub words-small : words + rise ps v + height ps v ≤ 2 * mostEntries
       words-small = omega (arith, rungs-next, rungs-fit ps little (t .tree) (i + 1) (omega arith), t .few)
 
       pub before-top : (place high : ℕ) (mid space₁ cells₁ : List ℕ) → place ≡ words + rise ps v → high ≡ height ps v → Risen ps v place (rise ps v) cells mid

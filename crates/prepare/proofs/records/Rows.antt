@@ -48,15 +48,15 @@ module _ {ps : List ℕ} {ladders : ℕ} {t : List ℕ} (r : Reached ps ladders 
 
 -- the records of the first i entries of a list, from `first` on, behind all that they are filled from
 pub record RowsBefore (ps : List ℕ) (ladders first : ℕ) (nodes old : List ℕ) (table : List ℕ) (at i : ℕ) : Type 0 where
-  pub room : first + 21 * length nodes ≤ length old
+  pub room : first + recordWords * length nodes ≤ length old
   pub behind : (4 + 3 * length ps ≤ first) × (ladders + 2 * length ps ≤ first)
-  pub place : at ≡ first + 21 * i
+  pub place : at ≡ first + recordWords * i
   pub within : i ≤ length nodes
   pub laid : table ≡ put old first (flatMap (jumpRecord ps) (take i nodes))
   pub long : length table ≡ length old
   pub reached : Reached ps ladders table
 
-pub rows-none : {ps : List ℕ} {ladders first : ℕ} {nodes old : List ℕ} → first + 21 * length nodes ≤ length old → 4 + 3 * length ps ≤ first → ladders + 2 * length ps ≤ first → Reached ps ladders old
+pub rows-none : {ps : List ℕ} {ladders first : ℕ} {nodes old : List ℕ} → first + recordWords * length nodes ≤ length old → 4 + 3 * length ps ≤ first → ladders + 2 * length ps ≤ first → Reached ps ladders old
     → RowsBefore ps ladders first nodes old old first 0
 unfolding flatMap
 rows-none {first = first} {old = old} h a b r = record { room = h; behind = (a, b); place = omega arith; within = omega arith; laid = sym (put-none old first); long = refl; reached = r }
@@ -66,15 +66,15 @@ module _ {ps : List ℕ} {ladders first : ℕ} {nodes old table : List ℕ} {at 
   rows-all h = s .laid ∙ ap (λ l. put old first (flatMap (jumpRecord ps) l)) (take-all i nodes h)
 
   module _ (h : i < length nodes) where
-    pub rows-room : at + 21 ≤ length table
+    pub rows-room : at + recordWords ≤ length table
     rows-room = omega (arith, s .place, s .long, s .room)
 
-    pub rows-next : (new : List ℕ) → new ≡ put table at (jumpRecord ps (getD nodes i 0)) → length new ≡ length table → RowsBefore ps ladders first nodes old new (at + 21) (i + 1)
+    pub rows-next : (new : List ℕ) → new ≡ put table at (jumpRecord ps (getD nodes i 0)) → length new ≡ length table → RowsBefore ps ladders first nodes old new (at + recordWords) (i + 1)
     rows-next new e l =
         let x = jumpRecord ps (getD nodes i 0) in
         let rows = flatMap (jumpRecord ps) (take i nodes) in
         let w = jump-wide groupLimit ps (getD nodes i 0) in
-        let many : length rows ≡ 21 * i = rows-length (jumpRecord ps) 21 (jump-wide groupLimit ps) (take i nodes) ∙ ap (λ k. 21 * k) (length-take i nodes ∙ omega arith) in
+        let many : length rows ≡ recordWords * i = rows-length (jumpRecord ps) recordWords (jump-wide groupLimit ps) (take i nodes) ∙ ap (λ k. recordWords * k) (length-take i nodes ∙ omega arith) in
         let q : flatMap (jumpRecord ps) (take (i + 1) nodes) ≡ rows ++ x
         = ap (flatMap (jumpRecord ps)) (ap (λ k. take k nodes) (add-one i) ∙ take-suc nodes i 0 h) ∙ rows-more (jumpRecord ps) (take i nodes) (getD nodes i 0) in
         let both : put table at x ≡ put old first (rows ++ x) = ap (λ m. put m at x) (s .laid) ∙ put-more old first at rows x (omega (arith, s .place)) (omega (arith, s .place, s .room)) in
@@ -93,7 +93,7 @@ module _ {ps t : List ℕ} (one : OneTree ps) (s : Sectioned ps t) (long : lengt
   reached-of : Reached ps (4 + 6 * length ps) t
   reached-of = record { one = one; long = omega arith; fits = omega arith; depths = s .depths; places = s .paths .places; rungs = s .paths .rungs }
 
-  pub nodes-few : (21 * length (jumpNodes groupLimit ps) ≤ recordWords * jumpRoom (length ps)) × (length (jumpNodes groupLimit ps) ≤ length ps)
+  pub nodes-few : (recordWords * length (jumpNodes groupLimit ps) ≤ recordWords * jumpRoom (length ps)) × (length (jumpNodes groupLimit ps) ≤ length ps)
   nodes-few = let f = jumps-few ps (small one) (one .tree) groupLimit in (omega arith, omega arith)
 
   nodes-in : (i : ℕ) → i < length (jumpNodes groupLimit ps) → getD (jumpNodes groupLimit ps) i 0 < length ps

@@ -4,16 +4,17 @@ use Prim.Native.Nat.{_-_, _≤_}
 use native.Mathlib.Omega.{arith}
 use borrow.Author.Needs.{needs}
 use lib.ListN.{length, length-set}
+use Rattle.base.specs.Limits.{recordWords}
 use Rattle.tree.specs.Parents.{depth}
 use Rattle.prepare.proofs.jumps.Ancestors.{RecordBefore, depth-small, record-none, record-end, record-stop, place-in, place-low, place-high, record-more}
 use Rattle.prepare.proofs.jumps.record.Statement.{statement}
 use Rattle.prepare.proofs.jumps.record.Tie as tie
 
 abbrev Inv-loop : tie.InvT-loop
-Inv-loop parents places rungs deep r₀ w₀ s₀ t₀ e₀ r w s t e = (e ≤ 21) × (length r ≡ 21) × RecordBefore parents (w₀ .0) r (w .0) s t e
+Inv-loop parents places rungs deep r₀ w₀ s₀ t₀ e₀ r w s t e = (e ≤ recordWords) × (length r ≡ recordWords) × RecordBefore parents (w₀ .0) r (w .0) s t e
 
 abbrev μ-loop : tie.MeasureT-loop
-μ-loop parents places rungs deep r₀ w₀ s₀ t₀ e₀ r w s t e = 21 - e
+μ-loop parents places rungs deep r₀ w₀ s₀ t₀ e₀ r w s t e = recordWords - e
 
 -- a turn that goes on, once it has read the entry's place
 abbrev Read : Type 0

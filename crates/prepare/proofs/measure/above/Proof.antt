@@ -4,6 +4,7 @@ use Prim.Native.Nat.{_-_, _≤_}
 use native.Mathlib.Omega.{arith}
 use borrow.Author.Needs.{needs}
 use lib.ListN.{length, length-set}
+use Rattle.tree.specs.Parents.{topMark}
 use Rattle.prepare.specs.Arrays.{entryAt, abovePosition}
 use Rattle.prepare.proofs.Preorder.{entries-some, above-first, array-length, words-array}
 use Rattle.prepare.proofs.spread.Writes.{Ran, ran-more}
@@ -27,7 +28,7 @@ loop-holds : tie.Need-loop-holds Inv-loop μ-loop
 loop-holds c =
     let s = c .before .before .before in
     let (n, some) = all s in
-    (omega arith, some, n, length-set (s .args .cells .now) 0 4294967295 ∙ s .pre .2, ran-more _ 0 (s .args .cells .now) _ (omega (arith, s .pre .2)) (sym (above-first (s .pre .0))) (λ k h. absurd (omega arith)))
+    (omega arith, some, n, length-set (s .args .cells .now) 0 topMark ∙ s .pre .2, ran-more _ 0 (s .args .cells .now) _ (omega (arith, s .pre .2)) (sym (above-first (s .pre .0))) (λ k h. absurd (omega arith)))
 
 higher-requires : tie.Need-higher-requires Inv-loop μ-loop
 higher-requires c κs =

@@ -7,6 +7,7 @@ use borrow.Rule.Slice.PartMut.{putMid, same-len-mid}
 use lib.ListN.{length, replicate}
 use Rattle.base.specs.Lists.{put}
 use Rattle.base.proofs.Puts.{came-filled}
+use Rattle.tree.specs.Parents.{topMark}
 use Rattle.prepare.proofs.measure.alone.Statement.{statement}
 use Rattle.prepare.proofs.measure.alone.Tie as tie
 
@@ -24,8 +25,8 @@ returns c =
     let long-2 : length l₂ ≡ length l₁ = same-len-mid (4 * n) (5 * n - 4 * n) l₁ (two .set-all2 .last .0) (two .set-all2 .kept .0) in
     let first = came-filled (2 * n) (3 * n) n 1 old _ (omega arith) (omega (arith, s .pre .0)) (one .set-all .ensures) in
     let second = came-filled (4 * n) (5 * n) n 1 l₁ _ (omega arith) (omega (arith, s .pre .0)) (two .set-all2 .ensures) in
-    came-filled (5 * n) (6 * n) n 4294967295 l₂ _ (omega arith) (omega (arith, s .pre .0)) (three .set-all3 .ensures)
-    ∙ ap (λ l. put l (5 * n) (replicate n 4294967295)) (second ∙ ap (λ l. put l (4 * n) (replicate n 1)) first)
+    came-filled (5 * n) (6 * n) n topMark l₂ _ (omega arith) (omega (arith, s .pre .0)) (three .set-all3 .ensures)
+    ∙ ap (λ l. put l (5 * n) (replicate n topMark)) (second ∙ ap (λ l. put l (4 * n) (replicate n 1)) first)
 
 pub alone-spec : {M : Type 1} → statement M
 alone-spec =

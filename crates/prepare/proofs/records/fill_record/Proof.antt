@@ -4,7 +4,7 @@ use Prim.Native.Nat.{_+_, _*_}
 use native.Mathlib.Omega.{arith}
 use borrow.Author.Needs.{needs}
 use lib.ListN.{length}
-use Rattle.base.specs.Limits.{groupLimit}
+use Rattle.base.specs.Limits.{groupLimit, recordWords}
 use Rattle.base.proofs.Puts.{lent-back, lent}
 use Rattle.climbs.proofs.Words.{jump-wide}
 use Rattle.prepare.proofs.records.Rows.{depth-word}
@@ -24,7 +24,7 @@ returns : tie.Need-returns
 returns c =
     let r = c .before .before .before .before .before in
     let s = r .before .before .before .before .before .before .before .before in
-    lent-back (s .args .at) (s .args .at + 21) (s .args .table .now) _ _ (c .before .before .copy .ensures ∙ r .record .ensures) (omega (arith, jump-wide groupLimit (s .args .parents .now) (s .args .v .0)))
+    lent-back (s .args .at) (s .args .at + recordWords) (s .args .table .now) _ _ (c .before .before .copy .ensures ∙ r .record .ensures) (omega (arith, jump-wide groupLimit (s .args .parents .now) (s .args .v .0)))
 
 pub fill-record-spec : {M : Type 1} → statement M
 fill-record-spec =
