@@ -2,8 +2,8 @@
 pub mod Locality
 pub mod Bounds
 pub mod Exponent
-pub mod Answering
+pub mod ProgramAnswers
 pub mod Numbers
 pub mod Runs
-pub mod Known
+pub mod KnownWords
 pub mod AnswerWords

@@ -3,10 +3,10 @@ pub mod Arms
 pub mod Lists
 pub mod Counts
 pub mod Places
-pub mod Keeping
-pub mod Joined
+pub mod Filters
+pub mod Joins
 pub mod Rows
 pub mod Views
 pub mod Puts
-pub mod Filled
+pub mod Fills
 pub mod Measures

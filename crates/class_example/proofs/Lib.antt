@@ -1,2 +1,2 @@
 -- Why the class is the climb's.
-pub mod Climbed
+pub mod Classes

@@ -15,12 +15,12 @@ use Rattle.base.specs.Limits.{microMark}
 use Rattle.base.proofs.Lists.{clash, at-any, index-map}
 use Rattle.base.proofs.Counts.{times, times-append}
 use Rattle.base.proofs.Places.{place-is}
-use Rattle.base.proofs.Keeping.{keep-append, keep-yes, keep-most, keep-in, keep-none, index-is, times-has, has-not}
+use Rattle.base.proofs.Filters.{keep-append, keep-yes, keep-most, keep-in, keep-none, index-is, times-has, has-not}
 use Rattle.tree.specs.Parents.{topMark, parent, up, depth}
 use Rattle.tree.specs.Forest.{preorder, under, size, family, order, position}
 use Rattle.tree.specs.Level.{Ancestor}
 use Rattle.tree.specs.Faults.{Tree}
-use Rattle.tree.proofs.Climbing.{entry-some, parent-some, up-first}
+use Rattle.tree.proofs.Climbs.{entry-some, parent-some, up-first}
 use Rattle.tree.proofs.Depths.{depth-parent}
 use Rattle.tree.proofs.Positions.{order-length, at-position, position-before, order-keep}
 use Rattle.tree.proofs.Intervals.{ancestor-in, ancestor-self, ancestor-trans, ancestor-parent, family-length, family-at, family-take, family-ancestor, interval, ancestor-family, family-once, under-up}

@@ -15,12 +15,12 @@ use Rattle.base.specs.Lists.{keep, index, every, has}
 use Rattle.base.proofs.Lists.{clash}
 use Rattle.base.proofs.Counts.{times}
 use Rattle.base.proofs.Places.{times-same}
-use Rattle.base.proofs.Keeping.{keep-append, keep-yes, keep-no, keep-times, keep-in, keep-none, every-true, every-false, index-is, times-has, has-not}
+use Rattle.base.proofs.Filters.{keep-append, keep-yes, keep-no, keep-times, keep-in, keep-none, every-true, every-false, index-is, times-has, has-not}
 use Rattle.tree.specs.Parents.{topMark, word, parent, up, children}
 use Rattle.tree.specs.Forest.{preorder, under, size, family, order, position}
 use Rattle.tree.specs.Level.{Ancestor}
 use Rattle.tree.specs.Faults.{Tree}
-use Rattle.tree.proofs.Climbing.{entry-some, parent-in, parent-some, up-first}
+use Rattle.tree.proofs.Climbs.{entry-some, parent-in, parent-some, up-first}
 use Rattle.tree.proofs.Forests.{child-of, of-child}
 use Rattle.tree.proofs.Positions.{order-length, position-in, order-in, position-of, position-before}
 use Rattle.tree.proofs.Intervals.{ancestor-in, ancestor-self, ancestor-trans, ancestor-parent, ancestor-size, family-room, family-drop, family-split, inside, family-ancestor, ancestor-family, under-up, parent-before}

@@ -11,11 +11,11 @@ use lib.Seq.{getD-append-add, getD-at, getD-take, getD-drop, take-at}
 use Rattle.base.specs.Lists.{keep, place}
 use Rattle.base.proofs.Counts.{times}
 use Rattle.base.proofs.Places.{place-is}
-use Rattle.base.proofs.Joined.{reverse-at, join-split, keyed-once}
+use Rattle.base.proofs.Joins.{reverse-at, join-split, keyed-once}
 use Rattle.tree.specs.Parents.{topMark, parent, up, depth, climb}
 use Rattle.tree.specs.Forest.{height, order, position, longChild, pathTop, pathFrom}
 use Rattle.tree.specs.Faults.{Tree}
-use Rattle.tree.proofs.Climbing.{entry-in, entry-some, parent-some, up-from, up-add}
+use Rattle.tree.proofs.Climbs.{entry-in, entry-some, parent-some, up-from, up-add}
 use Rattle.tree.proofs.Depths.{climb-at, up-depth, up-some}
 use Rattle.table.specs.Ladders.{nearest, ladder, ladders, ladPos}
 use Rattle.climbs.proofs.Paths.{path-top-no, path-length, path-up, path-depth}

@@ -14,7 +14,7 @@ use Rattle.tree.specs.Parents.{topMark, parent, up, depth}
 use Rattle.tree.specs.Forest.{under, size, order, position}
 use Rattle.shapes.specs.Walks.{walkRound, shapeNumber}
 use Rattle.shapes.specs.Climbs.{reached, localDepth, mark}
-use Rattle.tree.proofs.Climbing.{entry-some, up-in, up-from, up-first, up-add}
+use Rattle.tree.proofs.Climbs.{entry-some, up-in, up-from, up-first, up-add}
 use Rattle.tree.proofs.Depths.{up-depth, depth-parent}
 use Rattle.tree.proofs.Intervals.{depth-less, family-room}
 use Rattle.shapes.proofs.Rule.{shape-count}
@@ -25,13 +25,13 @@ use Rattle.answers.specs.Reading.{done, read, ifEq, run, wordAt}
 use Rattle.answers.specs.Steps.{exponent, fromJump, fromGroup, afterKind, ancestorAt}
 use Rattle.answers.proofs.Exponent.{exponent-iff, exponent-low, exponent-some}
 use Rattle.answers.proofs.Runs.{run-done, run-read, run-le, run-not-le, run-eq, run-not-eq}
-use Rattle.answers.proofs.Known.{jump-known, group-known, parent-known, above-known}
+use Rattle.answers.proofs.KnownWords.{jump-known, group-known, parent-known, above-known}
 use Rattle.climbs.proofs.Ladders.{ladpos-in}
 use Rattle.climbs.proofs.Room.{ladders-fit}
 use Rattle.climbs.proofs.Jumps.{macro-jump, jumps-room}
 use Rattle.climbs.proofs.Groups.{Grouped, grouped, groups-few, root-parent}
 use Rattle.climbs.proofs.Microtrees.{root-depth, shape-small, local-self, local-climb, local-depth}
-use Rattle.climbs.proofs.Leaps.{theorem-1, observation-7}
+use Rattle.climbs.proofs.OneJump.{theorem-1, observation-7}
 use Rattle.climbs.proofs.TableWords.{many, few, tree, small, depth-word, kind-word, ladpos-word, order-word, ladder-word, position-word, shape-word, parent-word, jump-depth-word, ancestor-word}
 
 -- KIND of a micro node, and of another

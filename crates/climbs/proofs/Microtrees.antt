@@ -14,7 +14,7 @@ use Rattle.tree.specs.Parents.{topMark, word, parent, depth, children}
 use Rattle.tree.specs.Parents.{up as climbUp}
 use Rattle.tree.specs.Forest.{Forest, empty, node, plant, grow, preorder, forestSize, under, size, family, order, position}
 use Rattle.tree.specs.Faults.{Tree}
-use Rattle.tree.proofs.Climbing.{entry-in, entry-some, parent-in, parent-none, up-step}
+use Rattle.tree.proofs.Climbs.{entry-in, entry-some, parent-in, parent-none, up-step}
 use Rattle.tree.proofs.Depths.{depth-top, depth-parent, up-depth}
 use Rattle.tree.proofs.Forests.{forest-length, child-of}
 use Rattle.tree.proofs.Positions.{at-position, position-is}

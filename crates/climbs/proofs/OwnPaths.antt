@@ -12,13 +12,13 @@ use Rattle.base.specs.Lists.{keep, index, place, has}
 use Rattle.base.proofs.Lists.{clash}
 use Rattle.base.proofs.Counts.{times, times-append}
 use Rattle.base.proofs.Places.{one-true, times-same, stands, place-stands}
-use Rattle.base.proofs.Keeping.{keep-split, keep-times, keep-passes, index-is, times-has, has-no}
-use Rattle.base.proofs.Joined.{keyed-once}
+use Rattle.base.proofs.Filters.{keep-split, keep-times, keep-passes, index-is, times-has, has-no}
+use Rattle.base.proofs.Joins.{keyed-once}
 use Rattle.tree.specs.Parents.{topMark, parent, up, depth}
 use Rattle.tree.specs.Forest.{height, order, position, longChild, pathTop, pathFrom}
 use Rattle.tree.specs.Level.{Ancestor}
 use Rattle.tree.specs.Faults.{Tree, meetsTop}
-use Rattle.tree.proofs.Climbing.{parent-some}
+use Rattle.tree.proofs.Climbs.{parent-some}
 use Rattle.tree.proofs.Depths.{depth-parent}
 use Rattle.tree.proofs.Forests.{meets-entry, order-once}
 use Rattle.tree.proofs.Positions.{order-length, entry-once, position-in, at-position}

@@ -15,7 +15,7 @@ use Rattle.base.proofs.Places.{times-same}
 use Rattle.tree.specs.Parents.{topMark, parent, up, depth, children}
 use Rattle.tree.specs.Forest.{Forest, empty, node, plant, forestHeight, tallest, spine, under, height, longChild, pathTop, pathFrom}
 use Rattle.tree.specs.Faults.{Tree}
-use Rattle.tree.proofs.Climbing.{entry-in, parent-in, parent-some, up-step}
+use Rattle.tree.proofs.Climbs.{entry-in, parent-in, parent-some, up-step}
 use Rattle.tree.proofs.OneTree.{tree-meets}
 use Rattle.tree.proofs.Depths.{up-depth}
 use Rattle.tree.proofs.Forests.{child-of, under-eq}

@@ -13,7 +13,7 @@ use borrow.Author.Tests.{le-leb, lt-leb}
 use Rattle.base.specs.Numbers.{Outcome, accepted, unknown, tooDeep, notAbove}
 use Rattle.base.specs.Lists.{first, has}
 use Rattle.base.specs.Limits.{tableWords, depthCell, preCell, sizeCell}
-use Rattle.base.proofs.Keeping.{times-has, has-not}
+use Rattle.base.proofs.Filters.{times-has, has-not}
 use Rattle.tree.specs.Parents.{up, climb, depth, children}
 use Rattle.tree.specs.Forest.{size, position}
 use Rattle.tree.specs.Level.{Ancestor, levelAncestor}

@@ -10,8 +10,8 @@ use borrow.Author.Tests.{lt-ltb, le-ltb}
 use Rattle.base.specs.Lists.{place}
 use Rattle.base.proofs.Counts.{one, times, length-sum, ones-all}
 use Rattle.base.proofs.Places.{place-stands}
-use Rattle.base.proofs.Keeping.{keep-most}
-use Rattle.base.proofs.Joined.{join-none, join-one}
+use Rattle.base.proofs.Filters.{keep-most}
+use Rattle.base.proofs.Joins.{join-none, join-one}
 use Rattle.tree.specs.Parents.{topMark}
 use Rattle.tree.specs.Forest.{order, pathTop, pathFrom}
 use Rattle.tree.specs.Faults.{Tree}

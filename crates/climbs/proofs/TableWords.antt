@@ -9,7 +9,7 @@ use lib.Seq.{getD-append-add, getD-take}
 use Rattle.base.specs.Lists.{below, padded}
 use Rattle.base.specs.Limits.{mostEntries, groupLimit, headerOf, entriesOf, jumpRoom, recordWords, tableWords, depthCell, kindCell, ladposCell, orderCell, preCell, sizeCell, ladderCell, positionCell, shapeCell, parentCell, jumpCell, ancestorCell}
 use Rattle.base.proofs.Lists.{below-at, each-length}
-use Rattle.base.proofs.Joined.{padded-length, padded-in}
+use Rattle.base.proofs.Joins.{padded-length, padded-in}
 use Rattle.tree.specs.Parents.{topMark, parent, up, depth}
 use Rattle.tree.specs.Forest.{under, size, order, position}
 use Rattle.tree.specs.Faults.{Tree}
@@ -19,12 +19,12 @@ use Rattle.table.specs.Ladders.{pathTops, ladders, ladPos}
 use Rattle.table.specs.Groups.{groupRoots, groupWords, jumpNodes, jumpRecord, kind}
 use Rattle.table.specs.Table.{header, entrySections, laidSections, tableOf}
 use Rattle.table.specs.Preparing.{Prepared}
-use Rattle.table.proofs.Accepting.{accepted-iff}
+use Rattle.table.proofs.Acceptance.{accepted-iff}
 use Rattle.answers.specs.Reading.{wordAt}
 use Rattle.climbs.proofs.Room.{ladders-fit}
 use Rattle.climbs.proofs.Groups.{groups-few}
 use Rattle.climbs.proofs.Jumps.{jumps-room}
-use Rattle.climbs.proofs.Words.{groups-length, jumps-length, group-position, group-shape, group-parent, jump-depth, jump-ancestor}
+use Rattle.climbs.proofs.RecordWords.{groups-length, jumps-length, group-position, group-shape, group-parent, jump-depth, jump-ancestor}
 
 -- past a first list, and within it
 past : (a b : List ℕ) (m i : ℕ) → length a ≡ m → getD (a ++ b) (m + i) 0 ≡ getD b i 0

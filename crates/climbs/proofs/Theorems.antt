@@ -11,8 +11,8 @@ use Rattle.answers.specs.Answers.{listed as listedCells}
 use Rattle.answers.specs.Steps.{level}
 use Rattle.answers.specs.declared.Answer.{Answer}
 use Rattle.answers.proofs.Bounds.{level-within}
-use Rattle.answers.proofs.Answering.{cells-listed, locality}
-use Rattle.answers.proofs.Answering.{few as at-most}
+use Rattle.answers.proofs.ProgramAnswers.{cells-listed, locality}
+use Rattle.answers.proofs.ProgramAnswers.{few as at-most}
 use Rattle.climbs.proofs.Questions.{level-right}
 
 -- an answer's cells are those of a trace, at most ten, and a table of the same length with the same words there gives the same answer

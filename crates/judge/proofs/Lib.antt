@@ -1,4 +1,3 @@
 -- Laws of the working space.
 pub mod Searches
 pub mod Verdicts
-pub mod Judgments

@@ -15,7 +15,7 @@ use Rattle.lines.specs.Counter.{badLine, answering, listing, opening}
 use Rattle.lines.specs.Stages.{Stage, counting, parenting, asking, ended, remaining, onEnd, mostBytes}
 use Rattle.lines.proofs.Digits.{read-long}
 use Rattle.lines.proofs.Parts.{Plain, Join, plain-or, parted-some, parted-onto}
-use Rattle.lines.proofs.Sayings.{count-is, parent-is}
+use Rattle.lines.proofs.LineFields.{count-is, parent-is}
 use Rattle.lines.proofs.Questions.{both, both-none, asked-plain, asked-join, question-is}
 
 -- a number has at most ten bytes, and so has the field of a parent

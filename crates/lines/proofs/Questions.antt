@@ -14,7 +14,7 @@ use Rattle.lines.specs.Fields.{fields, number, Question, asked, question
 use Rattle.lines.specs.Results.{headed, NextComma}
 use Rattle.lines.proofs.Digits.{number-comma}
 use Rattle.lines.proofs.Parts.{Plain, Join, plain-or, parted-some, parted-plain, parted-join, headed-read}
-use Rattle.lines.proofs.Sayings.{part, part-rest}
+use Rattle.lines.proofs.LineFields.{part, part-rest}
 
 -- the question of an entry and a depth that were read
 abbrev pub both : Option ℕ → Option ℕ → Option Question

@@ -14,7 +14,7 @@ use Rattle.base.proofs.Views.{view-front}
 use Rattle.tree.specs.Faults.{Tree, listFault}
 use Rattle.table.specs.Table.{tableOf}
 use Rattle.table.specs.Preparing.{countFault, tableFault, spaceFault, lendFault, callFault, refusal, preparing, tableAfter, spaceAfter, judging, judgedSpace}
-use Rattle.table.proofs.Answering.{judging-none}
+use Rattle.table.proofs.Outcomes.{judging-none}
 use Rattle.judge.specs.Regions.{Ordered}
 use Rattle.prepare.specs.Stages.{Walked}
 

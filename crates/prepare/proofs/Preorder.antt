@@ -11,7 +11,7 @@ use Rattle.base.proofs.Lists.{at-any}
 use Rattle.base.proofs.Views.{view-length, view-at}
 use Rattle.tree.specs.Parents.{topMark, parent}
 use Rattle.tree.specs.Forest.{order, position}
-use Rattle.tree.proofs.Climbing.{parent-some}
+use Rattle.tree.proofs.Climbs.{parent-some}
 use Rattle.tree.proofs.OneTree.{root-in}
 use Rattle.tree.proofs.Positions.{order-length, position-in, at-position, position-of, order-in}
 use Rattle.tree.proofs.Intervals.{parent-before, next-parent}

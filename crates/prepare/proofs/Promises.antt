@@ -11,7 +11,7 @@ use lib.Seq.{take-at}
 use Rattle.base.specs.Lists.{below, has}
 use Rattle.base.specs.Limits.{mostEntries, groupLimit, jumpRoom, recordWords, tableWords, spaceWords}
 use Rattle.base.proofs.Lists.{each-length}
-use Rattle.base.proofs.Joined.{padded-length}
+use Rattle.base.proofs.Joins.{padded-length}
 use Rattle.tree.specs.Parents.{topMark, depth}
 use Rattle.tree.specs.Forest.{size, order, position}
 use Rattle.tree.specs.Faults.{Tree}
@@ -20,12 +20,12 @@ use Rattle.table.specs.Ladders.{ladders, ladPos}
 use Rattle.table.specs.Groups.{groupRoots, groupWords, jumpNodes, jumpRecord, kind}
 use Rattle.table.specs.Table.{header, entrySections, ladderCells, groupCells, jumpCells, laidSections, tableOf}
 use Rattle.table.specs.Preparing.{refusal, preparing, tableAfter, spaceAfter, Prepared}
-use Rattle.table.proofs.Accepting.{accepted-iff}
-use Rattle.table.proofs.Answering.{refusals, preparing-numbers, refusal-none, zero-iff}
+use Rattle.table.proofs.Acceptance.{accepted-iff}
+use Rattle.table.proofs.Outcomes.{refusals, preparing-numbers, refusal-none, zero-iff}
 use Rattle.climbs.proofs.Room.{ladders-fit}
 use Rattle.climbs.proofs.Groups.{groups-few}
 use Rattle.climbs.proofs.Jumps.{jumps-few}
-use Rattle.climbs.proofs.Words.{groups-length, jumps-length}
+use Rattle.climbs.proofs.RecordWords.{groups-length, jumps-length}
 use Rattle.base.specs.Numbers.{Says}
 
 -- the table of a list that forms one tree has W words

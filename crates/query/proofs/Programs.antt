@@ -11,7 +11,7 @@ use Rattle.answers.specs.Reading.{Reading, done, read, ifLe, ifLt, ifEq, ifNone
 use Rattle.answers.specs.Answers.{pushed, pushedAll, answerFrom}
 use Rattle.answers.specs.declared.Cells.{Cells}
 use Rattle.answers.specs.declared.Answer.{Answer}
-use Rattle.answers.proofs.Answering.{push-all-listed}
+use Rattle.answers.proofs.ProgramAnswers.{push-all-listed}
 use Rattle.query.specs.Parts.{Held, gotAt}
 use Rattle.query.specs.declared.reading.Got.{Got}
 

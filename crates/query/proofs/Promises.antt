@@ -9,7 +9,7 @@ use Rattle.answers.specs.Reading.{Reading, Within, run}
 use Rattle.answers.specs.Answers.{listed, outcome, answerTo, answerFrom}
 use Rattle.answers.specs.Promises.{Answers, Gives, Few, Local, Right}
 use Rattle.answers.specs.declared.Answer.{Answer}
-use Rattle.answers.proofs.Answering.{whole, few, locality}
+use Rattle.answers.proofs.ProgramAnswers.{whole, few, locality}
 use Rattle.answers.proofs.Numbers.{Ends, ends-run}
 
 -- p is the question's program, for a table's length, and `means` what it asks of a parent list

@@ -1,2 +1,1 @@
 -- Laws of the fields of a text.
-pub mod Commas

@@ -13,7 +13,7 @@ use Rattle.base.proofs.Lists.{below-at, each-length, each-same}
 use Rattle.tree.specs.Parents.{topMark, word, depth}
 use Rattle.tree.specs.Parents.{up as climbUp}
 use Rattle.tree.specs.Faults.{Tree}
-use Rattle.tree.proofs.Climbing.{parent-in, parent-some, up-step, up-first, up-from, entry-in, entry-some}
+use Rattle.tree.proofs.Climbs.{parent-in, parent-some, up-step, up-first, up-from, entry-in, entry-some}
 use Rattle.tree.proofs.Depths.{up-some, up-none}
 use Rattle.shapes.specs.Walks.{down, up, Walk, shapes}
 use Rattle.shapes.specs.Climbs.{parents, parentList, reached, localDepth, mark, rowOf}

@@ -5,4 +5,4 @@ pub mod Heights
 pub mod Turns
 pub mod Depths
 pub mod Rank
-pub mod Ranking
+pub mod RankTurns

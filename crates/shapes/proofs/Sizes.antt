@@ -7,7 +7,7 @@ use native.Mathlib.Omega.{arith}
 use lib.ListN.{length, getElem?, drop, replicate}
 use Rattle.base.proofs.Lists.{All, all-at, all-append, all-from, all-map}
 use Rattle.tree.specs.Parents.{up as climbUp}
-use Rattle.tree.proofs.Climbing.{up-in}
+use Rattle.tree.proofs.Climbs.{up-in}
 use Rattle.shapes.specs.Walks.{down, up, Walk, after, walks, shapes}
 use Rattle.shapes.specs.Climbs.{parents, parentList, reached}
 

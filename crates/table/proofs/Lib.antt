@@ -1,3 +1,3 @@
 -- Theorems of preparing.
-pub mod Accepting
-pub mod Answering
+pub mod Acceptance
+pub mod Outcomes

@@ -13,11 +13,11 @@ use borrow.Author.Tests.{eqb-true, eq-eqb}
 use Rattle.base.specs.Lists.{first, some?, has}
 use Rattle.base.proofs.Lists.{clash}
 use Rattle.base.proofs.Counts.{times}
-use Rattle.base.proofs.Keeping.{first-only, first-nothing}
+use Rattle.base.proofs.Filters.{first-only, first-nothing}
 use Rattle.tree.specs.Parents.{topMark, word, parent, up, climbWithin, climb, depth, children}
 use Rattle.tree.specs.Level.{Ancestor, LevelAncestor, levelAncestor}
 use Rattle.tree.specs.Faults.{Tree}
-use Rattle.tree.proofs.Climbing.{entry-in, entry-some, parent-some, parent-in, up-step, up-first, up-add}
+use Rattle.tree.proofs.Climbs.{entry-in, entry-some, parent-some, parent-in, up-step, up-first, up-add}
 use Rattle.tree.proofs.Depths.{depth-parent, up-depth, level-sound, level-complete}
 use Rattle.tree.proofs.Forests.{child-of, of-child}
 use Rattle.tree.proofs.Intervals.{ancestor-in, ancestor-trans, ancestor-parent, depth-less}

@@ -17,7 +17,7 @@ use Rattle.tree.specs.Level.{Ancestor, LevelAncestor}
 use Rattle.tree.specs.Faults.{Tree}
 use Rattle.tree.specs.Questions.{ancestryOf, branchOf}
 use Rattle.base.proofs.Lists.{clash}
-use Rattle.tree.proofs.Climbing.{entry-some, up-first, up-from, up-add}
+use Rattle.tree.proofs.Climbs.{entry-some, up-first, up-from, up-add}
 use Rattle.tree.proofs.Depths.{level-complete, depth-parent, up-some, up-depth}
 use Rattle.tree.proofs.Intervals.{ancestor-in, ancestor-trans, ancestor-parent}
 use Rattle.tree.proofs.Ancestry.{on-climb, towards, towards-none}

@@ -15,7 +15,7 @@ use Rattle.base.proofs.Lists.{clash}
 use Rattle.tree.specs.Parents.{topMark, word, parent, up, climbWithin, climb, depth}
 use Rattle.tree.specs.Level.{Ancestor, LevelAncestor, levelAncestor}
 use Rattle.tree.specs.Faults.{Tree, meetsTop}
-use Rattle.tree.proofs.Climbing.{meets, meets-up, parent-some, entry-in, entry-some, up-step, up-first, up-in}
+use Rattle.tree.proofs.Climbs.{meets, meets-up, parent-some, entry-in, entry-some, up-step, up-first, up-in}
 use Rattle.tree.proofs.OneTree.{tree-meets}
 
 module _ (ps : List ℕ) (small : length ps ≤ topMark) where

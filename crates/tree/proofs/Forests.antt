@@ -16,7 +16,7 @@ use Rattle.base.proofs.Places.{one-true, one-most, times-other, stands}
 use Rattle.tree.specs.Parents.{topMark, word, parent, climbWithin, children}
 use Rattle.tree.specs.Forest.{Forest, empty, node, plant, grow, preorder, forestSize, forestHeight, under, whole, size, order}
 use Rattle.tree.specs.Faults.{meetsTop}
-use Rattle.tree.proofs.Climbing.{meets, meets-top, meets-up, meets-past, meets-word, parent-some}
+use Rattle.tree.proofs.Climbs.{meets, meets-top, meets-up, meets-past, meets-word, parent-some}
 use Rattle.tree.proofs.Preorders.{pre, once, length-pre, length-pre-le, settled, whole-more, meets-more}
 
 -- a preorder has as many entries as its forest

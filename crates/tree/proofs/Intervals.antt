@@ -14,7 +14,7 @@ use Rattle.tree.specs.Parents.{topMark, word, parent, up, depth, childre
 use Rattle.tree.specs.Forest.{Forest, plant, grow, preorder, forestSize, forestHeight, under, size, height, family, order, position}
 use Rattle.tree.specs.Level.{Ancestor}
 use Rattle.tree.specs.Faults.{Tree, meetsTop}
-use Rattle.tree.proofs.Climbing.{entry-in, entry-some, parent-some, parent-in, up-step, up-first, up-in, up-from, up-add}
+use Rattle.tree.proofs.Climbs.{entry-in, entry-some, parent-some, parent-in, up-step, up-first, up-in, up-from, up-add}
 use Rattle.tree.proofs.OneTree.{tree-meets, root-in, root-alone}
 use Rattle.tree.proofs.Depths.{climb-most, depth-top, depth-parent, up-depth}
 use Rattle.tree.proofs.Forests.{Measure, size-measure, height-measure, plant-more, plant-append, forest-length, child-of, of-child, under-eq, whole-eq, order-once}

@@ -11,7 +11,7 @@ use Rattle.base.proofs.Places.{times-same}
 use Rattle.tree.specs.Parents.{topMark, depth, children}
 use Rattle.tree.specs.Forest.{Forest, empty, node, plant, grow, preorder, levels, forestSize, under, whole, order}
 use Rattle.tree.specs.Faults.{meetsTop}
-use Rattle.tree.proofs.Climbing.{parent-in, parent-none}
+use Rattle.tree.proofs.Climbs.{parent-in, parent-none}
 use Rattle.tree.proofs.Depths.{meets-depth, end-depth}
 use Rattle.tree.proofs.Forests.{child-of, top-meets, child-meets, meets-entry}
 

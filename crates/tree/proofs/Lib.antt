@@ -1,5 +1,5 @@
 -- Laws and theorems of the parent list.
-pub mod Climbing
+pub mod Climbs
 pub mod Preorders
 pub mod OneTree
 pub mod Depths

@@ -15,7 +15,7 @@ use Rattle.tree.specs.Level.{LevelAncestor, levelAncestor}
 use Rattle.tree.specs.Faults.{Tree}
 use Rattle.tree.specs.Questions.{known, classOf, climbOf}
 use Rattle.tree.proofs.Depths.{level-sound, level-complete, level-defined, level-deep}
-use Rattle.tree.proofs.Climbing.{up-from}
+use Rattle.tree.proofs.Climbs.{up-from}
 use Rattle.tree.proofs.Intervals.{ancestor-in}
 
 -- the three cases of a level lookup

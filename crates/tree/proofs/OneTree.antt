@@ -15,7 +15,7 @@ use Rattle.base.proofs.Lists.{clash, at-in, at-some, first-none, none-first, pl
 use Rattle.base.proofs.Counts.{one, times, places-at, places-past}
 use Rattle.tree.specs.Parents.{topMark, word, up, children}
 use Rattle.tree.specs.Faults.{Tree, lowest, isStray, strayFault, topsFault, meetsTop, loopFault, listFault}
-use Rattle.tree.proofs.Climbing.{meets, meets-found, found-meets, up-in}
+use Rattle.tree.proofs.Climbs.{meets, meets-found, found-meets, up-in}
 use Rattle.tree.proofs.Preorders.{meets-within}
 
 or-none {ℓ} : {A : Type ℓ} (a b : Option A) → orElse a b ≡ none → (a ≡ none) × (b ≡ none)

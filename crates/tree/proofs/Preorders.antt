@@ -15,7 +15,7 @@ use Rattle.base.proofs.Lists.{clash}
 use Rattle.base.proofs.Counts.{one, times, times-append, places-at, places-past, sum, sum-le, length-sum, one-same}
 use Rattle.tree.specs.Parents.{topMark, word, children, climbWithin}
 use Rattle.tree.specs.Forest.{Forest, node, plant, grow, preorder}
-use Rattle.tree.proofs.Climbing.{meets, meets-top, meets-word, meets-past}
+use Rattle.tree.proofs.Climbs.{meets, meets-top, meets-word, meets-past}
 
 -- the preorder of m levels whose first is vs
 unfoldable pub pre : List ℕ → ℕ → List ℕ → List ℕ

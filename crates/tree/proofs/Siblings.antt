@@ -10,7 +10,7 @@ use Rattle.base.proofs.Places.{parted}
 use Rattle.tree.specs.Parents.{topMark, parent, children}
 use Rattle.tree.specs.Forest.{Forest, empty, node, plant, forestSize, forestHeight, under, position}
 use Rattle.tree.specs.Faults.{Tree}
-use Rattle.tree.proofs.Climbing.{parent-some}
+use Rattle.tree.proofs.Climbs.{parent-some}
 use Rattle.tree.proofs.Forests.{of-child}
 use Rattle.tree.proofs.Intervals.{child-at}
 

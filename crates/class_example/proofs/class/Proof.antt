@@ -2,7 +2,7 @@
 use borrow.Author.Needs.{needs}
 use lib.ListN.{length}
 use Rattle.answers.specs.Answers.{outcome}
-use Rattle.class_example.proofs.Climbed.{asked, handed-on}
+use Rattle.class_example.proofs.Classes.{asked, handed-on}
 use Rattle.class_example.proofs.class.Statement.{statement}
 use Rattle.class_example.proofs.class.Tie as tie
 

@@ -14,7 +14,7 @@ use Rattle.base.proofs.Rows.{rows-length, rows-more}
 use Rattle.base.proofs.Views.{Laid, laid-none, laid-length, laid-more}
 use Rattle.base.proofs.Puts.{wiped}
 use Rattle.base.proofs.Lists.{drop-map}
-use Rattle.base.proofs.Keeping.{keep-few, keep-next, keep-same}
+use Rattle.base.proofs.Filters.{keep-few, keep-next, keep-same}
 use Rattle.tree.specs.Parents.{topMark, parent, depth}
 use Rattle.tree.specs.Forest.{levels, under, size, family, order, position}
 use Rattle.tree.proofs.OneTree.{tree-meets}

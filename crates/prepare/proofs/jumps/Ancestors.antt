@@ -12,9 +12,9 @@ use lib.Seq.{getD-set-same, getD-set-other, ext-getD}
 use Rattle.base.specs.Limits.{mostEntries, groupLimit, recordWords}
 use Rattle.base.specs.Lists.{below}
 use Rattle.base.proofs.Lists.{below-at, each-length}
-use Rattle.base.proofs.Joined.{padded-length, padded-in}
+use Rattle.base.proofs.Joins.{padded-length, padded-in}
 use Rattle.tree.specs.Parents.{up, depth}
-use Rattle.tree.proofs.Climbing.{entry-in, up-in, up-add}
+use Rattle.tree.proofs.Climbs.{entry-in, up-in, up-add}
 use Rattle.tree.proofs.Depths.{up-some, up-none}
 use Rattle.tree.proofs.Intervals.{height-up, depth-less}
 use Rattle.table.specs.Ladders.{ladders, ladPos}
@@ -22,7 +22,7 @@ use Rattle.table.specs.Groups.{jumpRecord}
 use Rattle.table.specs.Table.{ladderCells}
 use Rattle.climbs.proofs.Ladders.{ladpos-in, lemma-5}
 use Rattle.climbs.proofs.Room.{ladders-fit}
-use Rattle.climbs.proofs.Words.{jump-wide}
+use Rattle.climbs.proofs.RecordWords.{jump-wide}
 use Rattle.prepare.specs.Arrays.{OneTree}
 use Rattle.prepare.proofs.Preorder.{small}
 

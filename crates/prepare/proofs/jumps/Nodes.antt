@@ -8,7 +8,7 @@ use lib.ListN.{length, set, take, length-append}
 use lib.Seq.{take-suc-set, take-set-le, take-all}
 use Rattle.base.specs.Limits.{groupLimit, microMark}
 use Rattle.base.specs.Lists.{keep}
-use Rattle.base.proofs.Keeping.{keep-few, keep-next, keep-same}
+use Rattle.base.proofs.Filters.{keep-few, keep-next, keep-same}
 use Rattle.tree.specs.Forest.{order}
 use Rattle.table.specs.Groups.{micro, jumpNode, jumpNodes, microKind, kind}
 use Rattle.climbs.proofs.Jumps.{jump-not, macro-kind}

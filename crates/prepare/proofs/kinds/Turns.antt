@@ -15,11 +15,11 @@ use Rattle.base.specs.Limits.{mostEntries, groupLimit, microMark}
 use Rattle.base.specs.Lists.{below, keep, every}
 use Rattle.base.proofs.Lists.{clash}
 use Rattle.base.proofs.Counts.{one, times}
-use Rattle.base.proofs.Keeping.{every-true, every-false, keep-few, keep-count}
+use Rattle.base.proofs.Filters.{every-true, every-false, keep-few, keep-count}
 use Rattle.tree.specs.Parents.{topMark, parent, children}
 use Rattle.tree.specs.Forest.{size, order, position}
 use Rattle.tree.specs.Level.{Ancestor}
-use Rattle.tree.proofs.Climbing.{parent-in, parent-some}
+use Rattle.tree.proofs.Climbs.{parent-in, parent-some}
 use Rattle.tree.proofs.Forests.{child-of, of-child}
 use Rattle.tree.proofs.OneTree.{root-in}
 use Rattle.tree.proofs.Intervals.{ancestor-self, ancestor-parent, ancestor-first, interval, inside, family-room, parent-before, root-first}

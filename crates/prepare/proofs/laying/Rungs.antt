@@ -11,17 +11,17 @@ use lib.ListN.{length, getD, set, take, length-set}
 use lib.Seq.{getD-set-same, getD-set-other, getD-take, length-take-le}
 use Rattle.base.specs.Lists.{padded}
 use Rattle.base.proofs.Lists.{clash}
-use Rattle.base.proofs.Joined.{padded-length, padded-in, padded-past}
+use Rattle.base.proofs.Joins.{padded-length, padded-in, padded-past}
 use Rattle.tree.specs.Parents.{up, depth}
 use Rattle.tree.specs.Forest.{position, pathTop}
-use Rattle.tree.proofs.Climbing.{entry-in, entry-some, up-first, up-add}
+use Rattle.tree.proofs.Climbs.{entry-in, entry-some, up-first, up-add}
 use Rattle.tree.proofs.Depths.{up-some}
 use Rattle.tree.proofs.Positions.{position-in, at-position}
 use Rattle.table.specs.Ladders.{ladders, ladPos}
 use Rattle.table.specs.Table.{ladderCells}
 use Rattle.climbs.proofs.Ladders.{rise, ladpos-in, ladder-own, lemma-5}
 use Rattle.climbs.proofs.Room.{ladders-fit}
-use Rattle.climbs.proofs.Filling.{filled}
+use Rattle.climbs.proofs.LadderWords.{filled}
 use Rattle.prepare.specs.Arrays.{OneTree, entryAt, abovePosition, Risen}
 use Rattle.prepare.proofs.Preorder.{small, holds-at, over-of}
 

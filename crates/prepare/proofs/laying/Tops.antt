@@ -9,7 +9,7 @@ use lib.ListN.{length, getD}
 use Rattle.base.specs.Limits.{mostEntries}
 use Rattle.tree.specs.Parents.{topMark}
 use Rattle.tree.specs.Forest.{position, longChild, pathTop}
-use Rattle.tree.proofs.Climbing.{parent-some}
+use Rattle.tree.proofs.Climbs.{parent-some}
 use Rattle.table.specs.Ladders.{ladPos}
 use Rattle.climbs.proofs.Paths.{path-top-root, path-top-no, long-child, long-no-top}
 use Rattle.climbs.proofs.Ladders.{ladpos-next, ladpos-in}

@@ -10,7 +10,7 @@ use borrow.Rule.Slice.PartMut.{midOf, putMid}
 use lib.ListN.{length, getD, set, take, replicate, length-append, length-take}
 use lib.Seq.{getD-set-same, getD-set-other}
 use Rattle.base.specs.Limits.{mostEntries}
-use Rattle.base.proofs.Keeping.{keep-most}
+use Rattle.base.proofs.Filters.{keep-most}
 use Rattle.base.proofs.Puts.{wiped}
 use Rattle.tree.specs.Parents.{topMark}
 use Rattle.tree.specs.Forest.{height, order, pathTop}
@@ -18,7 +18,7 @@ use Rattle.table.specs.Ladders.{pathTops, ladPos}
 use Rattle.table.specs.Table.{ladderCells}
 use Rattle.climbs.proofs.OwnPaths.{topsWithin}
 use Rattle.climbs.proofs.Ladders.{rise, rungsWithin}
-use Rattle.climbs.proofs.Running.{tops-more, tops-same, tops-none, tops-all, rungs-more, rungs-same, rungs-none, rungs-all, rungs-fit, ladpos-met}
+use Rattle.climbs.proofs.PathTops.{tops-more, tops-same, tops-none, tops-all, rungs-more, rungs-same, rungs-none, rungs-all, rungs-fit, ladpos-met}
 use Rattle.prepare.specs.Arrays.{OneTree, entryAt, Risen}
 use Rattle.prepare.specs.Stages.{Pathed, Placed}
 use Rattle.prepare.proofs.Preorder.{small, region-words, words-region}

@@ -12,8 +12,8 @@ use Rattle.base.specs.Numbers.{count, shortTable, accepted}
 use Rattle.base.specs.Limits.{mostEntries, tableWords}
 use Rattle.tree.specs.Faults.{Tree}
 use Rattle.table.specs.Preparing.{countFault, lendFault, callFault}
-use Rattle.table.proofs.Accepting.{count-iff}
-use Rattle.table.proofs.Answering.{judging-iff}
+use Rattle.table.proofs.Acceptance.{count-iff}
+use Rattle.table.proofs.Outcomes.{judging-iff}
 use Rattle.judge.proofs.Verdicts.{says, counted, uncounted}
 use Rattle.prepare.proofs.Calls.{call-count, call-table, call-lent, turned-away, judged-away, let-through, walked-of}
 use Rattle.prepare.proofs.Promises.{promised}

@@ -12,8 +12,8 @@ use Rattle.base.specs.Lists.{view, put, padded}
 use Rattle.base.specs.Limits.{groupLimit, jumpRoom, recordWords, tableWords}
 use Rattle.base.proofs.Lists.{below-at, drop-zeros}
 use Rattle.base.proofs.Places.{stands}
-use Rattle.base.proofs.Joined.{padded-length}
-use Rattle.base.proofs.Keeping.{keep-in}
+use Rattle.base.proofs.Joins.{padded-length}
+use Rattle.base.proofs.Filters.{keep-in}
 use Rattle.base.proofs.Puts.{lent-back, put-length, put-view, put-inside, put-none, put-more, put-over, lent, came-filled, stays}
 use Rattle.base.proofs.Rows.{rows-length, rows-more}
 use Rattle.base.proofs.Views.{view-at}
@@ -24,7 +24,7 @@ use Rattle.table.specs.Groups.{groupRoots, jumpNode, jumpNodes, jumpRecord}
 use Rattle.table.specs.Ladders.{pathTops}
 use Rattle.table.specs.Table.{header, jumpCells, tableOf}
 use Rattle.climbs.proofs.Jumps.{jumps-few}
-use Rattle.climbs.proofs.Words.{jump-wide, jumps-length}
+use Rattle.climbs.proofs.RecordWords.{jump-wide, jumps-length}
 use Rattle.prepare.specs.Arrays.{OneTree}
 use Rattle.prepare.specs.Stages.{Sectioned, Reached}
 use Rattle.prepare.proofs.Preorder.{small}

@@ -8,7 +8,7 @@ use lib.ListN.{length}
 use Rattle.base.specs.Lists.{below, view, put}
 use Rattle.base.specs.Limits.{groupLimit, jumpRoom, recordWords, tableWords}
 use Rattle.base.proofs.Lists.{each-length}
-use Rattle.base.proofs.Joined.{padded-length}
+use Rattle.base.proofs.Joins.{padded-length}
 use Rattle.base.proofs.Puts.{put-length, put-view, view-join, view-all, Apart, stays}
 use Rattle.tree.specs.Parents.{depth}
 use Rattle.tree.specs.Forest.{size, order, position}
@@ -17,7 +17,7 @@ use Rattle.table.specs.Groups.{kind}
 use Rattle.table.specs.Table.{header, entrySections, laidSections, ladderCells, groupCells, jumpCells, tableOf}
 use Rattle.climbs.proofs.Room.{ladders-fit}
 use Rattle.climbs.proofs.Groups.{groups-few}
-use Rattle.climbs.proofs.Words.{groups-length}
+use Rattle.climbs.proofs.RecordWords.{groups-length}
 use Rattle.prepare.specs.Arrays.{OneTree, kindsOf}
 use Rattle.prepare.specs.Stages.{Familied, Laddered, Sectioned}
 use Rattle.prepare.proofs.Preorder.{small, order-many}

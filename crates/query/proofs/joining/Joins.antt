@@ -9,13 +9,13 @@ use lib.Seq.{ext-getD, set-append-seam, sets, take-append-seam}
 use lib.Dec.{lit≤}
 use Rattle.base.specs.Lists.{each, below, padded}
 use Rattle.base.proofs.Lists.{each-length, below-at}
-use Rattle.base.proofs.Joined.{padded-length, padded-in, padded-past}
+use Rattle.base.proofs.Joins.{padded-length, padded-in, padded-past}
 use Rattle.answers.specs.Reading.{Reading, trace}
 use Rattle.answers.specs.Answers.{pushedAll, listed, answerTo, answerFrom}
 use Rattle.answers.specs.Steps.{fromJump}
 use Rattle.answers.specs.declared.Answer.{Answer}
 use Rattle.answers.specs.declared.Cells.{Cells}
-use Rattle.answers.proofs.Answering.{push-all-listed, from-is, whole, few, cells-listed}
+use Rattle.answers.proofs.ProgramAnswers.{push-all-listed, from-is, whole, few, cells-listed}
 use Rattle.answers.proofs.Bounds.{jump-within}
 use Rattle.query.specs.Parts.{Held}
 

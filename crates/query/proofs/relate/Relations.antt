@@ -14,7 +14,7 @@ use Rattle.answers.specs.Answers.{pushedAll, listed, answerTo, answerFrom}
 use Rattle.answers.specs.Steps.{opened, compared, related}
 use Rattle.answers.specs.declared.Answer.{Answer}
 use Rattle.answers.specs.declared.Cells.{Cells}
-use Rattle.answers.proofs.Answering.{cells-listed, then-is}
+use Rattle.answers.proofs.ProgramAnswers.{cells-listed, then-is}
 use Rattle.query.specs.Parts.{OpenedBy, pickAnswer, relatedFrom}
 use Rattle.query.specs.declared.look.Count.{Count}
 use Rattle.query.specs.declared.relate.Relation.{Relation}

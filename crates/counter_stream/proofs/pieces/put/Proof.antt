@@ -7,7 +7,7 @@ use native.Mathlib.Omega.{arith}
 use borrow.Author.Needs.{needs}
 use borrow.Author.Tests.{ltb-true, ltb-false}
 use lib.ListN.{length, take, length-set}
-use Rattle.counter_stream.proofs.Output.{put-more, put-all}
+use Rattle.counter_stream.proofs.pieces.Output.{put-more, put-all}
 use Rattle.counter_stream.proofs.pieces.put.Statement.{statement}
 use Rattle.counter_stream.proofs.pieces.put.Tie as tie
 

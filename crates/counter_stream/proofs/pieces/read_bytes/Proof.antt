@@ -6,7 +6,7 @@ use borrow.Author.Needs.{needs}
 use borrow.Author.Tests.{leb-true, leb-false}
 use lib.ListN.{length}
 use Rattle.counter_stream.specs.Fitness.{lent}
-use Rattle.counter_stream.proofs.Prefixes.{Partway, partway-start, partway-ready, partway-more, partway-whole, partway-full}
+use Rattle.counter_stream.proofs.pieces.Prefixes.{Partway, partway-start, partway-ready, partway-more, partway-whole, partway-full}
 use Rattle.counter_stream.proofs.pieces.read_bytes.Statement.{statement}
 use Rattle.counter_stream.proofs.pieces.read_bytes.Tie as tie
 

@@ -4,7 +4,7 @@ use Prim.Native.Nat.{_-_}
 use native.Mathlib.Omega.{arith}
 use borrow.Author.Needs.{needs}
 use Rattle.lines.specs.Results.{foundOf}
-use Rattle.counter_stream.proofs.LineEnds.{count-bad, count-large, count-fine}
+use Rattle.counter_stream.proofs.whole_lines.LineEnds.{count-bad, count-large, count-fine}
 use Rattle.counter_stream.proofs.whole_lines.count_line.Statement.{statement}
 use Rattle.counter_stream.proofs.whole_lines.count_line.Tie as tie
 

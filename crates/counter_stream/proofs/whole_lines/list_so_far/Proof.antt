@@ -1,6 +1,6 @@
 -- `whole_lines::list_so_far` meets its contract. Assumes nothing.
 use borrow.Author.Needs.{needs}
-use Rattle.counter_stream.proofs.Lists.{more-to-come, list-taken, list-refused}
+use Rattle.counter_stream.proofs.whole_lines.Lists.{more-to-come, list-taken, list-refused}
 use Rattle.counter_stream.proofs.whole_lines.list_so_far.Statement.{statement}
 use Rattle.counter_stream.proofs.whole_lines.list_so_far.Tie as tie
 

@@ -4,7 +4,7 @@ use native.Mathlib.Omega.{arith}
 use borrow.Author.Needs.{needs}
 use lib.ListN.{length-set}
 use Rattle.lines.specs.Results.{foundOf}
-use Rattle.counter_stream.proofs.LineEnds.{parent-bad, parent-fine}
+use Rattle.counter_stream.proofs.whole_lines.LineEnds.{parent-bad, parent-fine}
 use Rattle.counter_stream.proofs.whole_lines.parent_line.Statement.{statement}
 use Rattle.counter_stream.proofs.whole_lines.parent_line.Tie as tie
 

@@ -10,7 +10,7 @@ use Rattle.answers.specs.Answers.{answerTo}
 use Rattle.answers.specs.Steps.{level}
 use Rattle.lines.specs.Results.{askedOf}
 use Rattle.lines.specs.Counter.{mostListed, replyRow, answerRow}
-use Rattle.counter_stream.proofs.LineEnds.{question-bad, question-fine}
+use Rattle.counter_stream.proofs.whole_lines.LineEnds.{question-bad, question-fine}
 use Rattle.counter_stream.proofs.whole_lines.question_line.Statement.{statement}
 use Rattle.counter_stream.proofs.whole_lines.question_line.Tie as tie
 

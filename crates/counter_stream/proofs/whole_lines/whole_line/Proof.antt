@@ -6,7 +6,7 @@ use native.Mathlib.Omega.{arith}
 use borrow.Author.Needs.{needs}
 use Rattle.lines.specs.Stages.{onLine}
 use Rattle.counter_stream.proofs.Fitness.{count-fits, parent-fits, question-fits}
-use Rattle.counter_stream.proofs.LineEnds.{ends-turn}
+use Rattle.counter_stream.proofs.whole_lines.LineEnds.{ends-turn}
 use Rattle.counter_stream.proofs.whole_lines.whole_line.Statement.{statement}
 use Rattle.counter_stream.proofs.whole_lines.whole_line.Tie as tie
 

@@ -4,8 +4,8 @@ use Prim.Native.Nat.{_*_, _≤_}
 use native.Mathlib.Omega.{arith}
 use borrow.Author.Needs.{needs}
 use lib.ListN.{length}
-use Rattle.table.proofs.Answering.{judging-iff}
-use Rattle.judge.proofs.Judgments.{cleared, lent}
+use Rattle.table.proofs.Outcomes.{judging-iff}
+use Rattle.judge.proofs.judging.Judgments.{cleared, lent}
 use Rattle.judge.proofs.judging.judge.Statement.{statement}
 use Rattle.judge.proofs.judging.judge.Tie as tie
 

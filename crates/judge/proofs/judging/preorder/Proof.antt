@@ -9,9 +9,9 @@ use borrow.Rule.Slice.PartMut.{putMid, mid-len, drop-put}
 use lib.ListN.{length, length-append}
 use Rattle.base.specs.Numbers.{count, shortSpace, Says}
 use Rattle.table.specs.Preparing.{countFault, lendFault, judging}
-use Rattle.table.proofs.Accepting.{count-iff}
+use Rattle.table.proofs.Acceptance.{count-iff}
 use Rattle.judge.proofs.Verdicts.{says, counted, uncounted, lend-count, lend-short, lend-fine, judging-lent, judging-rest}
-use Rattle.judge.proofs.Judgments.{cleared, kept-refused, kept-accepted}
+use Rattle.judge.proofs.judging.Judgments.{cleared, kept-refused, kept-accepted}
 use Rattle.judge.proofs.judging.preorder.Statement.{statement}
 use Rattle.judge.proofs.judging.preorder.Tie as tie
 

@@ -9,7 +9,7 @@ use lib.ListN.{length, length-set}
 use Rattle.tree.specs.Parents.{topMark, word}
 use Rattle.judge.specs.Regions.{Linked, heads, nexts}
 use Rattle.judge.proofs.link.Chains.{from-end, link-below-in, link-top-in}
-use Rattle.base.proofs.Filled.{filled-part}
+use Rattle.base.proofs.Fills.{filled-part}
 use Rattle.judge.proofs.link.link.Statement.{statement}
 use Rattle.judge.proofs.link.link.Tie as tie
 

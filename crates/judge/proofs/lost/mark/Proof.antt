@@ -10,7 +10,7 @@ use Rattle.base.specs.Lists.{view}
 use Rattle.tree.specs.Forest.{order}
 use Rattle.judge.proofs.lost.Marks.{MarkedTo, mark-none, mark-end, word-low, order-kept, mark-in}
 use Rattle.base.proofs.Views.{view-other}
-use Rattle.base.proofs.Filled.{filled-part}
+use Rattle.base.proofs.Fills.{filled-part}
 use Rattle.tree.proofs.Forests.{order-short}
 use Rattle.judge.proofs.lost.mark.Statement.{statement}
 use Rattle.judge.proofs.lost.mark.Tie as tie

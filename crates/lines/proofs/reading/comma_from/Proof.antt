@@ -3,7 +3,7 @@ use Prim.Native.Nat.{_-_}
 use native.Mathlib.Omega.{arith}
 use borrow.Author.Needs.{needs}
 use lib.ListN.{length}
-use Rattle.lines.proofs.Commas.{Free, free-none, free-more, free-hit, free-end}
+use Rattle.lines.proofs.reading.Commas.{Free, free-none, free-more, free-hit, free-end}
 use Rattle.lines.proofs.reading.comma_from.Statement.{statement}
 use Rattle.lines.proofs.reading.comma_from.Tie as tie
 

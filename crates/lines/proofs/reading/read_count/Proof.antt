@@ -4,7 +4,7 @@ use borrow.Author.Needs.{needs}
 use borrow.Author.Tests.{not-false}
 use Rattle.lines.specs.Results.{foundOf}
 use Rattle.lines.proofs.Parts.{headed-long}
-use Rattle.lines.proofs.Sayings.{count-none, count-read}
+use Rattle.lines.proofs.LineFields.{count-none, count-read}
 use Rattle.lines.proofs.reading.read_count.Statement.{statement}
 use Rattle.lines.proofs.reading.read_count.Tie as tie
 

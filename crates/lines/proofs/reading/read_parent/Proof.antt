@@ -5,7 +5,7 @@ use borrow.Author.Needs.{needs}
 use borrow.Author.Tests.{not-false}
 use Rattle.lines.specs.Results.{foundOf}
 use Rattle.lines.proofs.Parts.{headed-long}
-use Rattle.lines.proofs.Sayings.{parent-none, parent-top, parent-read}
+use Rattle.lines.proofs.LineFields.{parent-none, parent-top, parent-read}
 use Rattle.lines.proofs.reading.read_parent.Statement.{statement}
 use Rattle.lines.proofs.reading.read_parent.Tie as tie
 

@@ -8,7 +8,7 @@ use borrow.Fn.Kinds.{In}
 use borrow.Fn.PlainCycle.{Measures, is, falls, and}
 use Rattle.lines.specs.Text.{decimal}
 use Rattle.lines.specs.Texts.{said}
-use Rattle.lines.proofs.Decimal.{decimal-one, decimal-more}
+use Rattle.lines.proofs.writing.Decimals.{decimal-one, decimal-more}
 use Rattle.lines.proofs.writing.with_number.Reads as with-number
 use Rattle.lines.proofs.writing.with_number.Kinds as with-number-kinds
 use Rattle.lines.proofs.writing.+with_number.Lts-with_number as with-number-lts

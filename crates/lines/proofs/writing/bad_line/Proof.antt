@@ -2,7 +2,7 @@
 use native.Mathlib.Omega.{arith}
 use borrow.Author.Needs.{needs}
 use Rattle.lines.specs.Text.{row}
-use Rattle.lines.proofs.Decimal.{decimal-long}
+use Rattle.lines.proofs.writing.Decimals.{decimal-long}
 use Rattle.lines.proofs.writing.bad_line.Statement.{statement}
 use Rattle.lines.proofs.writing.bad_line.Tie as tie
 

@@ -3,7 +3,7 @@ use mathlib.Core.List.{[], _∷_}
 use native.Mathlib.Omega.{arith}
 use borrow.Author.Needs.{needs}
 use Rattle.lines.specs.Text.{decimal}
-use Rattle.lines.proofs.Rows.{three-fields}
+use Rattle.lines.proofs.writing.Rows.{three-fields}
 use Rattle.lines.proofs.writing.bad_list.Statement.{statement}
 use Rattle.lines.proofs.writing.bad_list.Tie as tie
 

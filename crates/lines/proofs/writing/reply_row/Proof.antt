@@ -6,7 +6,7 @@ use lib.Dec.{eqb}
 use borrow.Author.Needs.{needs}
 use Rattle.lines.specs.Text.{dash, decimal}
 use Rattle.lines.specs.Counter.{replyRow}
-use Rattle.lines.proofs.Rows.{five-fields}
+use Rattle.lines.proofs.writing.Rows.{five-fields}
 use Rattle.lines.proofs.writing.reply_row.Statement.{statement}
 use Rattle.lines.proofs.writing.reply_row.Tie as tie
 

@@ -7,7 +7,7 @@ use native.Mathlib.Numerals.{add-one}
 use lib.ListN.{length, take, getD}
 use lib.Seq.{take-all, take-suc}
 use Rattle.lines.specs.Texts.{said}
-use Rattle.lines.proofs.Rows.{behind}
+use Rattle.lines.proofs.writing.Rows.{behind}
 use Rattle.lines.proofs.writing.with_bytes.Statement.{statement}
 use Rattle.lines.proofs.writing.with_bytes.Tie as tie
 

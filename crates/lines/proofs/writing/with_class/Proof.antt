@@ -5,7 +5,7 @@ use borrow.Author.Needs.{needs}
 use borrow.Author.Tests.{eq-eqb, ne-eqb}
 use Rattle.lines.specs.Text.{comma, dash}
 use Rattle.lines.specs.Texts.{said}
-use Rattle.lines.proofs.Rows.{behind}
+use Rattle.lines.proofs.writing.Rows.{behind}
 use Rattle.lines.proofs.writing.with_class.Statement.{statement}
 use Rattle.lines.proofs.writing.with_class.Tie as tie
 

@@ -3,8 +3,8 @@ use mathlib.Core.List.{[], _∷_}
 use native.Mathlib.Omega.{arith}
 use Rattle.lines.specs.Text.{decimal}
 use Rattle.lines.specs.Texts.{said}
-use Rattle.lines.proofs.Decimal.{decimal-short}
-use Rattle.lines.proofs.Rows.{behind}
+use Rattle.lines.proofs.writing.Decimals.{decimal-short}
+use Rattle.lines.proofs.writing.Rows.{behind}
 use Rattle.lines.proofs.writing.with_field.Statement.{statement}
 use Rattle.lines.proofs.writing.with_field.Tie as tie
 

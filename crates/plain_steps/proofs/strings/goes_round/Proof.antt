@@ -4,7 +4,7 @@ use mathlib.Core.Logic.{⊎-elim}
 use Prim.Native.Nat.{_+_}
 use native.Mathlib.Omega.{arith}
 use borrow.Author.Needs.{needs}
-use Rattle.plain_steps.proofs.Closing.{Left, start, up, down, none, ended}
+use Rattle.plain_steps.proofs.strings.ClosedStrings.{Left, start, up, down, none, ended}
 use Rattle.plain_steps.proofs.strings.goes_round.Statement.{statement}
 use Rattle.plain_steps.proofs.strings.goes_round.Tie as tie
 

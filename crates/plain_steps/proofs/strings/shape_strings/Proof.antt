@@ -4,7 +4,7 @@ use Prim.Native.Nat.{_-_, _≤_}
 use native.Mathlib.Omega.{arith}
 use borrow.Author.Needs.{needs}
 use lib.ListN.{length}
-use Rattle.plain_steps.proofs.Listing.{Listed, start, small, stepped, finish}
+use Rattle.plain_steps.proofs.strings.StringLists.{Listed, start, small, stepped, finish}
 use Rattle.plain_steps.proofs.strings.shape_strings.Statement.{statement}
 use Rattle.plain_steps.proofs.strings.shape_strings.Tie as tie
 

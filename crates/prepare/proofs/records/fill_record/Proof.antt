@@ -6,7 +6,7 @@ use borrow.Author.Needs.{needs}
 use lib.ListN.{length}
 use Rattle.base.specs.Limits.{groupLimit, recordWords}
 use Rattle.base.proofs.Puts.{lent-back, lent}
-use Rattle.climbs.proofs.Words.{jump-wide}
+use Rattle.climbs.proofs.RecordWords.{jump-wide}
 use Rattle.prepare.proofs.records.Rows.{depth-word}
 use Rattle.prepare.proofs.records.fill_record.Statement.{statement}
 use Rattle.prepare.proofs.records.fill_record.Tie as tie

@@ -8,7 +8,7 @@ use Rattle.answers.specs.Answers.{answerTo, answerWords}
 use Rattle.answers.specs.Steps.{level, inside, deeper}
 use Rattle.answers.specs.declared.Answer.{Answer}
 use Rattle.answers.proofs.Bounds.{level-within}
-use Rattle.answers.proofs.Answering.{few}
+use Rattle.answers.proofs.ProgramAnswers.{few}
 use Rattle.answers.proofs.AnswerWords.{words-same}
 use Rattle.query.proofs.joining.Joins.{answer-held}
 use Rattle.query.proofs.relate.Relations.{inner-goes}

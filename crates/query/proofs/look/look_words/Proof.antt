@@ -3,7 +3,7 @@ use mathlib.Core.Path.{ap, _∙_}
 use lib.Dec.{lit≤}
 use borrow.Author.Needs.{needs}
 use Rattle.answers.specs.Answers.{answerWords}
-use Rattle.answers.proofs.Answering.{whole}
+use Rattle.answers.proofs.ProgramAnswers.{whole}
 use Rattle.answers.proofs.Bounds.{look-within}
 use Rattle.query.proofs.look.look_words.Statement.{statement}
 use Rattle.query.proofs.look.look_words.Tie as tie

@@ -6,7 +6,7 @@ use Prim.Native.Nat.{ℕ, _+_, _-_, _≤_, _<_}
 use native.Mathlib.Omega.{arith}
 use lib.ListN.{length, drop}
 use Rattle.samples.specs.Fields.{behindCommas}
-use Rattle.samples.proofs.Commas.{past-comma, past-other, at-end}
+use Rattle.samples.proofs.fields.Commas.{past-comma, past-other, at-end}
 use Rattle.samples.proofs.fields.behind.Statement.{statement}
 use Rattle.samples.proofs.fields.behind.Tie as tie
 

@@ -2,7 +2,7 @@
 use mathlib.Core.Path.{_∙_, ap}
 use borrow.Author.Needs.{needs}
 use Rattle.samples.specs.Fields.{toComma}
-use Rattle.samples.proofs.Commas.{field-is}
+use Rattle.samples.proofs.fields.Commas.{field-is}
 use Rattle.samples.proofs.fields.field.Statement.{statement}
 use Rattle.samples.proofs.fields.field.Tie as tie
 

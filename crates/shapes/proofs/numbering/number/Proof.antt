@@ -8,7 +8,7 @@ use borrow.Author.Needs.{needs}
 use borrow.Author.Tests.{ltb-false, ltb-true}
 use lib.ListN.{length, take, drop, length-take, length-drop}
 use Rattle.tree.specs.Forest.{levels, forestSize}
-use Rattle.shapes.proofs.Ranking.{part-levels, part-fits, levels-part, levels-count}
+use Rattle.shapes.proofs.RankTurns.{part-levels, part-fits, levels-part, levels-count}
 use Rattle.shapes.proofs.numbering.number.Statement.{statement}
 use Rattle.shapes.proofs.numbering.number.Tie as tie
 

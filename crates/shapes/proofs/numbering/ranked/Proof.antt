@@ -10,7 +10,7 @@ use Rattle.base.proofs.Lists.{below-at}
 use Rattle.shapes.specs.Walks.{walks}
 use Rattle.shapes.specs.Numbered.{Numbered}
 use Rattle.shapes.proofs.Rank.{ways}
-use Rattle.shapes.proofs.Ranking.{fall, Ranked, start, small, finish, group-is, due, stepped}
+use Rattle.shapes.proofs.RankTurns.{fall, Ranked, start, small, finish, group-is, due, stepped}
 use Rattle.shapes.proofs.numbering.ranked.Statement.{statement}
 use Rattle.shapes.proofs.numbering.ranked.Tie as tie
 

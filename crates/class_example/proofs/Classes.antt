@@ -8,7 +8,7 @@ use Rattle.base.specs.Limits.{tableWords}
 use lib.ListN.{length}
 use Rattle.tree.specs.Questions.{classOf}
 use Rattle.table.specs.Preparing.{refusal, preparing}
-use Rattle.table.proofs.Answering.{refusal-none}
+use Rattle.table.proofs.Outcomes.{refusal-none}
 use Rattle.base.specs.Numbers.{Says}
 use Rattle.class_example.specs.Class.{classFrom}
 

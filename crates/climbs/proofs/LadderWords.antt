@@ -12,7 +12,7 @@ use lib.Seq.{take-at, getD-at, ext-getD}
 use Rattle.base.specs.Lists.{keep, padded}
 use Rattle.base.proofs.Counts.{times}
 use Rattle.base.proofs.Places.{stands, place-is}
-use Rattle.base.proofs.Joined.{join-find, padded-length, padded-in, padded-past}
+use Rattle.base.proofs.Joins.{join-find, padded-length, padded-in, padded-past}
 use Rattle.tree.specs.Parents.{topMark, up}
 use Rattle.tree.specs.Forest.{height, order, position, pathTop, pathFrom}
 use Rattle.tree.specs.Faults.{Tree}
@@ -23,7 +23,7 @@ use Rattle.climbs.proofs.Paths.{path-in}
 use Rattle.climbs.proofs.OwnPaths.{OnPath, topsWithin, on-path, tops-once, tops-in, tops-split}
 use Rattle.climbs.proofs.Ladders.{rise, rungsWithin, ladder-length, ladpos-on, ladpos-top, lemma-5, ladder-own}
 use Rattle.climbs.proofs.Room.{ladders-fit}
-use Rattle.climbs.proofs.Running.{rungs-grow, ladder-end}
+use Rattle.climbs.proofs.PathTops.{rungs-grow, ladder-end}
 
 -- word j of LADDERS stands 1 or more before a path top's own word, in that top's ladder
 pub record Above (ps : List ℕ) (j : ℕ) : Type 0 where

@@ -7,8 +7,8 @@ use native.Mathlib.Omega.{arith}
 use lib.ListN.{length, getD, take, drop, length-append}
 use lib.Seq.{take-suc, take-all, take-add}
 use Rattle.base.specs.Lists.{keep}
-use Rattle.base.proofs.Keeping.{keep-append, keep-yes, keep-no}
-use Rattle.base.proofs.Joined.{join-append}
+use Rattle.base.proofs.Filters.{keep-append, keep-yes, keep-no}
+use Rattle.base.proofs.Joins.{join-append}
 use Rattle.tree.specs.Parents.{topMark}
 use Rattle.tree.specs.Forest.{height, order, position, pathTop}
 use Rattle.tree.specs.Faults.{Tree}

@@ -9,7 +9,7 @@ use Rattle.tree.specs.Parents.{topMark, up, depth}
 use Rattle.tree.specs.Forest.{height}
 use Rattle.tree.specs.Faults.{Tree}
 use Rattle.tree.specs.Level.{Ancestor}
-use Rattle.tree.proofs.Climbing.{up-from, up-add}
+use Rattle.tree.proofs.Climbs.{up-from, up-add}
 use Rattle.tree.proofs.Depths.{up-depth, up-some}
 use Rattle.tree.proofs.Intervals.{height-up}
 use Rattle.table.specs.Ladders.{ladders, ladPos}

@@ -11,7 +11,7 @@ use Rattle.base.specs.Limits.{tableWords, spaceWords}
 use Rattle.tree.specs.Faults.{listFault}
 use Rattle.table.specs.Table.{tableOf}
 use Rattle.table.specs.Preparing.{countFault, tableFault, spaceFault, callFault, refusal, preparing, Prepared}
-use Rattle.table.proofs.Answering.{refusal-none}
+use Rattle.table.proofs.Outcomes.{refusal-none}
 use Rattle.base.specs.Numbers.{Says}
 use Rattle.lines.specs.Counter.{mostListed, badList, headerRow, fault}
 use Rattle.lines.specs.Stages.{Turn, asking, listed}

@@ -14,7 +14,7 @@ use Rattle.base.specs.Limits.{spaceWords}
 use Rattle.base.specs.Numbers.{Outcome, Says}
 use Rattle.base.proofs.Views.{view-front}
 use Rattle.table.specs.Preparing.{lendFault, judging, judgedSpace}
-use Rattle.table.proofs.Answering.{judgments, judging-numbers, judging-none}
+use Rattle.table.proofs.Outcomes.{judgments, judging-numbers, judging-none}
 use Rattle.judge.specs.Regions.{Ordered}
 
 module _ (ps xs : List ℕ) where

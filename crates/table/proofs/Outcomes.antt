@@ -17,7 +17,7 @@ use Rattle.base.proofs.Lists.{clash}
 use Rattle.tree.specs.Parents.{topMark, children}
 use Rattle.tree.specs.Faults.{Tree, lowest, isStray, meetsTop, topsFault, listFault}
 use Rattle.table.specs.Preparing.{refuse, countFault, tableFault, spaceFault, callFault, lendFault, refusal, preparing, judging}
-use Rattle.table.proofs.Accepting.{accepted-iff, accepts}
+use Rattle.table.proofs.Acceptance.{accepted-iff, accepts}
 
 -- the number of what is answered is among those of a list
 abbrev Among : List ℕ → Option Outcome → Type 0

@@ -1,0 +1,3 @@
+-- Laws of the module `pieces`.
+pub mod Output
+pub mod Prefixes

@@ -1,0 +1,3 @@
+-- Laws of the module `whole_lines`.
+pub mod Lists
+pub mod LineEnds

@@ -1,0 +1,2 @@
+-- Laws of the module `judging`.
+pub mod Judgments

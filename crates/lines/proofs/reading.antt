@@ -1,0 +1,2 @@
+-- Laws of the module `reading`.
+pub mod Commas

@@ -1,0 +1,3 @@
+-- Laws of the module `writing`.
+pub mod Decimals
+pub mod Rows

@@ -1,0 +1,3 @@
+-- Laws of the module `strings`.
+pub mod ClosedStrings
+pub mod StringLists

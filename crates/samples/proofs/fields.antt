@@ -1,0 +1,2 @@
+-- Laws of the module `fields`.
+pub mod Commas
