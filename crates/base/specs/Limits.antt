@@ -8,6 +8,10 @@ use lib.ListN.{length}
 abbrev pub mostEntries : ℕ
 mostEntries = 1048576
 
+-- the top mark: the word of the top entry, which is the root in 003
+abbrev pub topMark : ℕ
+topMark = 4294967295
+
 -- the most entries of a group: the size up to which an entry is micro
 abbrev pub groupLimit : ℕ
 groupLimit = 5

@@ -11,12 +11,12 @@ use lib.ListN.{length, getD, take, drop, length-append, length-map, take-append-
 use lib.Seq.{getD-at}
 use borrow.Author.Tests.{not-true, not-false}
 use Rattle.base.specs.Lists.{keep, index, place, has}
-use Rattle.base.specs.Limits.{microMark}
+use Rattle.base.specs.Limits.{microMark, topMark}
 use Rattle.base.proofs.Lists.{clash, at-any, index-map}
 use Rattle.base.proofs.Counts.{times, times-append}
 use Rattle.base.proofs.Places.{place-is}
 use Rattle.base.proofs.Filters.{keep-append, keep-yes, keep-most, keep-in, keep-none, index-is, times-has, has-not}
-use Rattle.tree.specs.Parents.{topMark, parent, up, depth}
+use Rattle.tree.specs.Parents.{parent, up, depth}
 use Rattle.tree.specs.Forest.{preorder, under, size, family, order, position}
 use Rattle.tree.specs.Level.{Ancestor}
 use Rattle.tree.specs.Faults.{Tree}

@@ -16,7 +16,8 @@ use Rattle.base.proofs.Lists.{clash}
 use Rattle.base.proofs.Counts.{times}
 use Rattle.base.proofs.Places.{times-same}
 use Rattle.base.proofs.Filters.{keep-append, keep-yes, keep-no, keep-times, keep-in, keep-none, every-true, every-false, index-is, times-has, has-not}
-use Rattle.tree.specs.Parents.{topMark, word, parent, up, children}
+use Rattle.base.specs.Limits.{topMark}
+use Rattle.tree.specs.Parents.{word, parent, up, children}
 use Rattle.tree.specs.Forest.{preorder, under, size, family, order, position}
 use Rattle.tree.specs.Level.{Ancestor}
 use Rattle.tree.specs.Faults.{Tree}

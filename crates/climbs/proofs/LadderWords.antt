@@ -13,7 +13,8 @@ use Rattle.base.specs.Lists.{keep, padded}
 use Rattle.base.proofs.Counts.{times}
 use Rattle.base.proofs.Places.{stands, place-is}
 use Rattle.base.proofs.Joins.{join-find, padded-length, padded-in, padded-past}
-use Rattle.tree.specs.Parents.{topMark, up}
+use Rattle.base.specs.Limits.{topMark}
+use Rattle.tree.specs.Parents.{up}
 use Rattle.tree.specs.Forest.{height, order, position, pathTop, pathFrom}
 use Rattle.tree.specs.Faults.{Tree}
 use Rattle.tree.proofs.Depths.{up-some}

@@ -12,7 +12,8 @@ use Rattle.base.specs.Lists.{keep, place}
 use Rattle.base.proofs.Counts.{times}
 use Rattle.base.proofs.Places.{place-is}
 use Rattle.base.proofs.Joins.{reverse-at, join-split, keyed-once}
-use Rattle.tree.specs.Parents.{topMark, parent, up, depth, climb}
+use Rattle.base.specs.Limits.{topMark}
+use Rattle.tree.specs.Parents.{parent, up, depth, climb}
 use Rattle.tree.specs.Forest.{height, order, position, longChild, pathTop, pathFrom}
 use Rattle.tree.specs.Faults.{Tree}
 use Rattle.tree.proofs.Climbs.{entry-in, entry-some, parent-some, up-from, up-add}

@@ -9,8 +9,8 @@ use native.Mathlib.Decide.{decLe}
 use native.Mathlib.Decide.{ℕ-discrete, decLt}
 use lib.ListN.{length, getD}
 use Rattle.base.specs.Numbers.{accepted}
-use Rattle.base.specs.Limits.{mostEntries, groupLimit, shapeCount, jumpRoom, microMark, kindCell, shapeCell}
-use Rattle.tree.specs.Parents.{topMark, parent, up, depth}
+use Rattle.base.specs.Limits.{mostEntries, groupLimit, shapeCount, jumpRoom, microMark, kindCell, shapeCell, topMark}
+use Rattle.tree.specs.Parents.{parent, up, depth}
 use Rattle.tree.specs.Forest.{under, size, order, position}
 use Rattle.shapes.specs.Walks.{walkRound, shapeNumber}
 use Rattle.shapes.specs.Climbs.{reached, localDepth, mark}

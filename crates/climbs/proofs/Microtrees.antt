@@ -10,7 +10,8 @@ use lib.ListN.{length, getD, length-append, List·getD-append}
 use lib.Seq.{getD-append-add}
 use Rattle.base.proofs.Counts.{times}
 use Rattle.base.proofs.Places.{times-same}
-use Rattle.tree.specs.Parents.{topMark, word, parent, depth, children}
+use Rattle.base.specs.Limits.{topMark}
+use Rattle.tree.specs.Parents.{word, parent, depth, children}
 use Rattle.tree.specs.Parents.{up as climbUp}
 use Rattle.tree.specs.Forest.{Forest, empty, node, plant, grow, preorder, forestSize, under, size, family, order, position}
 use Rattle.tree.specs.Faults.{Tree}

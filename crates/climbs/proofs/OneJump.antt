@@ -5,7 +5,8 @@ use mathlib.Core.Option.{some}
 use Prim.Native.Nat.{ℕ, suc, _+_, _-_, _*_, _^_, _≤_, _<_}
 use native.Mathlib.Omega.{arith}
 use lib.ListN.{length, getD}
-use Rattle.tree.specs.Parents.{topMark, up, depth}
+use Rattle.base.specs.Limits.{topMark}
+use Rattle.tree.specs.Parents.{up, depth}
 use Rattle.tree.specs.Forest.{height}
 use Rattle.tree.specs.Faults.{Tree}
 use Rattle.tree.specs.Level.{Ancestor}

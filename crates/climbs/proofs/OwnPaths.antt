@@ -14,7 +14,8 @@ use Rattle.base.proofs.Counts.{times, times-append}
 use Rattle.base.proofs.Places.{one-true, times-same, stands, place-stands}
 use Rattle.base.proofs.Filters.{keep-split, keep-times, keep-passes, index-is, times-has, has-no}
 use Rattle.base.proofs.Joins.{keyed-once}
-use Rattle.tree.specs.Parents.{topMark, parent, up, depth}
+use Rattle.base.specs.Limits.{topMark}
+use Rattle.tree.specs.Parents.{parent, up, depth}
 use Rattle.tree.specs.Forest.{height, order, position, longChild, pathTop, pathFrom}
 use Rattle.tree.specs.Level.{Ancestor}
 use Rattle.tree.specs.Faults.{Tree, meetsTop}

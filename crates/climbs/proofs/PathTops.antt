@@ -9,7 +9,7 @@ use lib.Seq.{take-suc, take-all, take-add}
 use Rattle.base.specs.Lists.{keep}
 use Rattle.base.proofs.Filters.{keep-append, keep-yes, keep-no}
 use Rattle.base.proofs.Joins.{join-append}
-use Rattle.tree.specs.Parents.{topMark}
+use Rattle.base.specs.Limits.{topMark}
 use Rattle.tree.specs.Forest.{height, order, position, pathTop}
 use Rattle.tree.specs.Faults.{Tree}
 use Rattle.tree.proofs.Positions.{order-length, position-in, at-position, position-is, order-in}

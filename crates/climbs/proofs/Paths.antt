@@ -12,7 +12,8 @@ use borrow.Author.Tests.{eqb-true, eq-eqb, le-leb, lt-leb, not-false}
 use Rattle.base.proofs.Lists.{clash}
 use Rattle.base.proofs.Counts.{times}
 use Rattle.base.proofs.Places.{times-same}
-use Rattle.tree.specs.Parents.{topMark, parent, up, depth, children}
+use Rattle.base.specs.Limits.{topMark}
+use Rattle.tree.specs.Parents.{parent, up, depth, children}
 use Rattle.tree.specs.Forest.{Forest, empty, node, plant, forestHeight, tallest, spine, under, height, longChild, pathTop, pathFrom}
 use Rattle.tree.specs.Faults.{Tree}
 use Rattle.tree.proofs.Climbs.{entry-in, parent-in, parent-some, up-step}

@@ -7,7 +7,8 @@ use native.Mathlib.Omega.{arith}
 use lib.ListN.{length, getD}
 use Rattle.base.proofs.Lists.{below-at, each-length}
 use Rattle.base.proofs.Rows.{rows-length, rows-at}
-use Rattle.tree.specs.Parents.{topMark, parent, up, depth}
+use Rattle.base.specs.Limits.{topMark}
+use Rattle.tree.specs.Parents.{parent, up, depth}
 use Rattle.tree.specs.Forest.{under, position}
 use Rattle.shapes.specs.Walks.{walkRound, shapeNumber}
 use Rattle.table.specs.Groups.{groupRoots, groupWords, jumpNodes, jumpRecord}

@@ -12,7 +12,7 @@ use Rattle.base.proofs.Counts.{one, times, length-sum, ones-all}
 use Rattle.base.proofs.Places.{place-stands}
 use Rattle.base.proofs.Filters.{keep-most}
 use Rattle.base.proofs.Joins.{join-none, join-one}
-use Rattle.tree.specs.Parents.{topMark}
+use Rattle.base.specs.Limits.{topMark}
 use Rattle.tree.specs.Forest.{order, pathTop, pathFrom}
 use Rattle.tree.specs.Faults.{Tree}
 use Rattle.tree.proofs.Positions.{order-length}

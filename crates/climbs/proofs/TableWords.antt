@@ -7,10 +7,10 @@ use native.Mathlib.Omega.{arith}
 use lib.ListN.{length, getD, take, List·getD-append}
 use lib.Seq.{getD-append-add, getD-take}
 use Rattle.base.specs.Lists.{below, padded}
-use Rattle.base.specs.Limits.{mostEntries, groupLimit, headerOf, entriesOf, jumpRoom, recordWords, tableWords, depthCell, kindCell, ladposCell, orderCell, preCell, sizeCell, ladderCell, positionCell, shapeCell, parentCell, jumpCell, ancestorCell}
+use Rattle.base.specs.Limits.{mostEntries, groupLimit, headerOf, entriesOf, jumpRoom, recordWords, tableWords, depthCell, kindCell, ladposCell, orderCell, preCell, sizeCell, ladderCell, positionCell, shapeCell, parentCell, jumpCell, ancestorCell, topMark}
 use Rattle.base.proofs.Lists.{below-at, each-length}
 use Rattle.base.proofs.Joins.{padded-length, padded-in}
-use Rattle.tree.specs.Parents.{topMark, parent, up, depth}
+use Rattle.tree.specs.Parents.{parent, up, depth}
 use Rattle.tree.specs.Forest.{under, size, order, position}
 use Rattle.tree.specs.Faults.{Tree}
 use Rattle.tree.proofs.Positions.{order-length}

@@ -15,11 +15,11 @@ use Rattle.lines.proofs.LongLines.{long-text}
 use Rattle.counter_stream.specs.declared.phases.Phase.{Phase}
 use Rattle.counter_stream.specs.declared.phases.Phase.the-variants.{AwaitsCount, AwaitsParent, AwaitsQuestion, AtEnd}
 use Rattle.counter_stream.specs.declared.phases.State.{State}
-use Rattle.counter_stream.specs.Fitness.{Lent, endState, isEnd, heldBytes, phaseFits, stageAt, stageOf, standing, beginning}
+use Rattle.counter_stream.specs.Fitness.{Lent, endState, isEnd, heldBytes, phaseFits, stageAt, stageOf, stageWith, beginning}
 use Rattle.counter_stream.specs.Lines.{Turned}
 use Rattle.counter_stream.specs.Pieces.{Room, StateFits, Ready, Fed, ByteFed}
 use Rattle.counter_stream.proofs.LineFeeds.{plain-of, has-more}
-use Rattle.counter_stream.proofs.Fitness.{standing-fit, end-is, cut-short, at-end, standing-end, begins}
+use Rattle.counter_stream.proofs.Fitness.{stage-fit, end-is, cut-short, at-end, stage-end, begins}
 
 -- the end fits all buffers with room
 end-fits : (b : Lent) → Room b → StateFits endState b
@@ -50,14 +50,14 @@ module _ (st : State) (b : Lent) (n : ℕ) (ready : Ready st n b) where
   fed-by read text after left f lines same = record {
     lines = lines;
     goes-on = on;
-    ends = sym (ap (λ l. remaining (beginning st b n) (heldBytes st b ++ l)) (append-nil read)) ∙ on [] ∙ ap (λ l. text ++ l) (ap (remaining (standing after left)) (append-nil (heldBytes after left)) ∙ end-is after left f);
+    ends = sym (ap (λ l. remaining (beginning st b n) (heldBytes st b ++ l)) (append-nil read)) ∙ on [] ∙ ap (λ l. text ++ l) (ap (remaining (stageWith after left)) (append-nil (heldBytes after left)) ∙ end-is after left f);
   }
     where
-      on : (rest : List ℕ) → remaining (beginning st b n) (heldBytes st b ++ (read ++ rest)) ≡ text ++ remaining (standing after left) (heldBytes after left ++ rest)
+      on : (rest : List ℕ) → remaining (beginning st b n) (heldBytes st b ++ (read ++ rest)) ≡ text ++ remaining (stageWith after left) (heldBytes after left ++ rest)
       on rest =
-          ap (λ s. remaining s (heldBytes st b ++ (read ++ rest))) (begins st b n (ready .numbered) ∙ standing-fit st b (ready .fits))
+          ap (λ s. remaining s (heldBytes st b ++ (read ++ rest))) (begins st b n (ready .numbered) ∙ stage-fit st b (ready .fits))
           ∙ same rest
-          ∙ ap (λ s. text ++ remaining s (heldBytes after left ++ rest)) (sym (standing-fit after left f))
+          ∙ ap (λ s. text ++ remaining s (heldBytes after left ++ rest)) (sym (stage-fit after left f))
 
   pub fed-none : Fed st b n [] [] st b
   fed-none = fed-by [] [] st b (ready .fits) (omega arith) (λ rest. refl)
@@ -141,6 +141,6 @@ pub unfit-feeds : (st : State) (b left : Lent) (n : ℕ) (read text : List ℕ) 
 unfolding remaining
 unfit-feeds st b left n read text z e = record {
   lines = omega arith;
-  goes-on = λ rest. ap (λ s. remaining s (heldBytes st b ++ (read ++ rest))) z ∙ sym (ap (λ s. text ++ remaining s rest) (standing-end left) ∙ append-nil text ∙ e);
+  goes-on = λ rest. ap (λ s. remaining s (heldBytes st b ++ (read ++ rest))) z ∙ sym (ap (λ s. text ++ remaining s rest) (stage-end left) ∙ append-nil text ∙ e);
   ends = ap (λ s. remaining s (heldBytes st b ++ read)) z ∙ sym (append-nil text ∙ e);
 }

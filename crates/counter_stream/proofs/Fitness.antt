@@ -17,7 +17,7 @@ use Rattle.lines.proofs.LineTexts.{end-text}
 use Rattle.counter_stream.specs.declared.phases.Phase.{Phase}
 use Rattle.counter_stream.specs.declared.phases.Phase.the-variants.{AwaitsCount, AwaitsParent, AwaitsQuestion, AtEnd}
 use Rattle.counter_stream.specs.declared.phases.State.{State}
-use Rattle.counter_stream.specs.Fitness.{Lent, endState, isEnd, heldBytes, hasRoom, phaseFits, fits, stageAt, stageOf, standing, mostLine, beginning, endingAt, ending}
+use Rattle.counter_stream.specs.Fitness.{Lent, endState, isEnd, heldBytes, hasRoom, phaseFits, fits, stageAt, stageOf, stageWith, mostLine, beginning, endingAt, ending}
 use Rattle.counter_stream.specs.Pieces.{Room, StateFits, Ready}
 use Rattle.counter_stream.proofs.LineFeeds.{plain-of}
 
@@ -74,15 +74,15 @@ module _ (st : State) (b : Lent) where
       le-leb (spaceWords mostListed) (length (b .space)) (f .room .list .worked),
     )
 
-    pub standing-fit : standing st b ≡ stageOf st b
-    unfolding standing fits
-    standing-fit = rw (has-room, le-leb (st .held) mostBytes (f .few), f .phase, f .unbroken)
+    pub stage-fit : stageWith st b ≡ stageOf st b
+    unfolding stageWith fits
+    stage-fit = rw (has-room, le-leb (st .held) mostBytes (f .few), f .phase, f .unbroken)
 
     -- the end of the input
-    pub end-is : remaining (standing st b) (heldBytes st b) ≡ ending st
+    pub end-is : remaining (stageWith st b) (heldBytes st b) ≡ ending st
     unfolding onEnd
     end-is =
-        ap (λ s. remaining s (heldBytes st b)) standing-fit
+        ap (λ s. remaining s (heldBytes st b)) stage-fit
         ∙ end-text (heldBytes st b) (plain-of (heldBytes st b) (f .unbroken)) (stageOf st b)
         ∙ go (st .phase)
       where
@@ -122,9 +122,9 @@ at-end AwaitsParent st parents table e = clash e
 at-end AwaitsQuestion st parents table e = clash e
 at-end AtEnd st parents table e = refl
 
-pub standing-end : (b : Lent) → standing endState b ≡ ended
-unfolding standing
-standing-end b = go (fits endState b)
+pub stage-end : (b : Lent) → stageWith endState b ≡ ended
+unfolding stageWith
+stage-end b = go (fits endState b)
   where
     go : (t : Bool) → cond t ended ended ≡ ended
     go true = refl
@@ -132,7 +132,7 @@ standing-end b = go (fits endState b)
 
 -- the lines of a piece can be numbered, or the program is at its end
 module _ (st : State) (b : Lent) (n : ℕ) where
-  pub begins : n ≤ mostLine - st .line → beginning st b n ≡ standing st b
+  pub begins : n ≤ mostLine - st .line → beginning st b n ≡ stageWith st b
   unfolding beginning
   begins h = rw (le-leb n (mostLine - st .line) h)
 
@@ -143,7 +143,7 @@ module _ (st : State) (b : Lent) (n : ℕ) where
         record { fits = fits-of st b (sym fit ∙ t .1); numbered = leb-true n (mostLine - st .line) (sym numbered ∙ t .0) }
 
     pub unfit : (x && y) ≡ false → beginning st b n ≡ ended
-    unfolding beginning standing
+    unfolding beginning stageWith
     unfit e = rw (sym numbered, sym fit) (go x y e)
       where
         go : (x y : Bool) → (x && y) ≡ false → cond x (cond y (stageOf st b) ended) ended ≡ ended

@@ -9,9 +9,9 @@ use Rattle.lines.specs.Fields.{parted}
 use Rattle.lines.specs.Counter.{opening, counter}
 use Rattle.lines.specs.Stages.{remaining}
 use Rattle.counter_stream.specs.declared.phases.State.{State}
-use Rattle.counter_stream.specs.Fitness.{Lent, startState, heldBytes, standing, mostLine, beginning, ending}
+use Rattle.counter_stream.specs.Fitness.{Lent, startState, heldBytes, stageWith, mostLine, beginning, ending}
 use Rattle.counter_stream.specs.Pieces.{Room, StateFits, Fed, Calls, finishes, feeds}
-use Rattle.counter_stream.proofs.Fitness.{standing-fit, begins}
+use Rattle.counter_stream.proofs.Fitness.{stage-fit, begins}
 
 -- a piece of m bytes behind another
 pub fed-join : (st : State) (b : Lent) (n : ℕ) (xs t : List ℕ) (mid : State) (kept : Lent) → Fed st b n xs t mid kept
@@ -21,20 +21,20 @@ fed-join st b n xs t mid kept f m ys u after left g h zs v e d = record {
   lines = omega (arith, f .lines, g .lines, ap length e, length-append xs ys);
   goes-on = λ rest. piece rest
       ∙ ap (λ l. t ++ l) (ap (λ s. remaining s (heldBytes mid kept ++ (ys ++ rest))) (sym same) ∙ g .goes-on rest)
-      ∙ joined (remaining (standing after left) (heldBytes after left ++ rest));
+      ∙ joined (remaining (stageWith after left) (heldBytes after left ++ rest));
   ends = ap (λ l. remaining (beginning st b n) (heldBytes st b ++ l)) e
       ∙ f .goes-on ys
       ∙ ap (λ l. t ++ l) (ap (λ s. remaining s (heldBytes mid kept ++ ys)) (sym same) ∙ g .ends)
       ∙ joined (ending after);
 }
   where
-    same : beginning mid kept m ≡ standing mid kept
+    same : beginning mid kept m ≡ stageWith mid kept
     same = begins mid kept m h
 
     joined : (l : List ℕ) → t ++ (u ++ l) ≡ v ++ l
     joined l = sym (append-assoc t u l) ∙ sym (ap (λ x. x ++ l) d)
 
-    piece : (rest : List ℕ) → remaining (beginning st b n) (heldBytes st b ++ (zs ++ rest)) ≡ t ++ remaining (standing mid kept) (heldBytes mid kept ++ (ys ++ rest))
+    piece : (rest : List ℕ) → remaining (beginning st b n) (heldBytes st b ++ (zs ++ rest)) ≡ t ++ remaining (stageWith mid kept) (heldBytes mid kept ++ (ys ++ rest))
     piece rest = ap (λ l. remaining (beginning st b n) (heldBytes st b ++ l)) (ap (λ l. l ++ rest) e ∙ append-assoc xs ys rest) ∙ f .goes-on (ys ++ rest)
 
 -- the whole input from the start, and what its end prints: for every input of fewer than 2^64 - 1 bytes
@@ -42,7 +42,7 @@ pub fed-whole : (b : Lent) → Room b → (n : ℕ) → n ≤ mostLine - 1 → (
 unfolding remaining counter some?
 fed-whole b room n h input text after left f =
     let start-fits : StateFits startState b = record { room = room; few = omega arith; phase = refl; unbroken = refl } in
-    sym (f .ends) ∙ ap (λ s. remaining s input) (begins startState b n h ∙ standing-fit startState b start-fits)
+    sym (f .ends) ∙ ap (λ s. remaining s input) (begins startState b n h ∙ stage-fit startState b start-fits)
 
 -- calls behind a piece from the start
 module _ (b : Lent) (room : Room b) (n : ℕ) (few : n ≤ mostLine - 1) where

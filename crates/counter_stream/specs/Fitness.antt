@@ -66,15 +66,15 @@ abbrev pub stageOf : State → Lent → Stage
 stageOf st b = stageAt (st .phase) st (b .parents) (b .table)
 
 -- where the program stands: at its end, where state and buffers do not fit
-unfoldable pub standing : State → Lent → Stage
-standing st b = cond (fits st b) (stageOf st b) ended
+unfoldable pub stageWith : State → Lent → Stage
+stageWith st b = cond (fits st b) (stageOf st b) ended
 
 -- where it stands as n bytes are lent: at its end too, where so many lines could not all be numbered in 64 bits
 abbrev pub mostLine : ℕ
 mostLine = 18446744073709551615
 
 unfoldable pub beginning : State → Lent → ℕ → Stage
-beginning st b n = cond (leb n (mostLine - st .line)) (standing st b) ended
+beginning st b n = cond (leb n (mostLine - st .line)) (stageWith st b) ended
 
 -- what the end of the input prints: what is cut short or missing
 abbrev pub endingAt : Phase → State → List ℕ

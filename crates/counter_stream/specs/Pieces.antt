@@ -9,7 +9,7 @@ use Rattle.lines.specs.Text.{lineFeed}
 use Rattle.lines.specs.Stages.{remaining, mostBytes}
 use Rattle.counter_stream.specs.declared.phases.State.{State}
 use Rattle.counter_stream.specs.declared.pieces.Progress.{Progress}
-use Rattle.counter_stream.specs.Fitness.{Lent, heldBytes, phaseFits, standing, mostLine, beginning, ending, rowRoom}
+use Rattle.counter_stream.specs.Fitness.{Lent, heldBytes, phaseFits, stageWith, mostLine, beginning, ending, rowRoom}
 use Rattle.counter_stream.specs.Lines.{ListRoom}
 
 -- room for the longest line and the longest list
@@ -37,7 +37,7 @@ pub record Ready (st : State) (n : ℕ) (b : Lent) : Type 0 where
 -- bytes of a piece of n bytes were read: their text, with what goes on or the end prints behind them, is what was to be printed
 pub record Fed (st : State) (b : Lent) (n : ℕ) (read text : List ℕ) (after : State) (left : Lent) : Type 0 where
   pub lines : after .line ≤ st .line + length read
-  pub goes-on : (rest : List ℕ) → remaining (beginning st b n) (heldBytes st b ++ (read ++ rest)) ≡ text ++ remaining (standing after left) (heldBytes after left ++ rest)
+  pub goes-on : (rest : List ℕ) → remaining (beginning st b n) (heldBytes st b ++ (read ++ rest)) ≡ text ++ remaining (stageWith after left) (heldBytes after left ++ rest)
   pub ends : remaining (beginning st b n) (heldBytes st b ++ read) ≡ text ++ ending after
 
 -- a byte was read

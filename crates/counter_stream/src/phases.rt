@@ -67,40 +67,11 @@ pub fn is_at_end(state: State) -> bool
     }
 }
 
-// Whether the buffers have room for the longest line and the longest list.
-fn has_room(line: &[u8], parents: &[u32], table: &[u32], space: &[u32]) -> bool
-    ensures { λ r. ⌜ r ≡ hasRoom (lent (now (line .entry)) (now (parents .entry)) (now (table .entry)) (now (space .entry))) ⌝ }
+// Whether the lines of so many bytes can all be numbered.
+pub(crate) fn is_numbered(state: State, bytes: usize) -> bool
+    ensures { λ r. ⌜ r ≡ leb bytes (mostLine - state .line) ⌝ }
 {
-    (LINE_ROOM <= line.len())
-        & ((LIST_ROOM <= parents.len())
-            & ((TABLE_ROOM <= table.len()) & (SPACE_ROOM <= space.len())))
-}
-
-// Whether a line feed stands among some bytes.
-fn has_line_feed(bytes: &[u8]) -> bool
-    ensures { λ r. ⌜ r ≡ has (now (bytes .entry)) lineFeed ⌝ }
-{
-    let mut i: usize = 0;
-    while i < bytes.len() {
-        if bytes[i] == b'\n' {
-            return true;
-        }
-        i += 1;
-    }
-    false
-}
-
-// Whether the phase's numbers can be those of a list that the program takes.
-fn phase_fits(state: State) -> bool
-    ensures { λ r. ⌜ r ≡ phaseFits (state .phase) state ⌝ }
-{
-    let phase = state.phase;
-    match phase {
-        Phase::AwaitsCount => state.line == 1,
-        Phase::AwaitsParent => (state.filled < state.count) & (state.count <= MOST_LISTED),
-        Phase::AwaitsQuestion => state.count <= MOST_LISTED,
-        Phase::AtEnd => true,
-    }
+    bytes as u64 <= u64::MAX - state.line
 }
 
 // Whether a state fits these buffers.
@@ -121,9 +92,38 @@ pub(crate) fn is_fit(
     phase_fits(state) & !has_line_feed(&line[0..held])
 }
 
-// Whether the lines of so many bytes can all be numbered.
-pub(crate) fn is_numbered(state: State, bytes: usize) -> bool
-    ensures { λ r. ⌜ r ≡ leb bytes (mostLine - state .line) ⌝ }
+// Whether the buffers have room for the longest line and the longest list.
+fn has_room(line: &[u8], parents: &[u32], table: &[u32], space: &[u32]) -> bool
+    ensures { λ r. ⌜ r ≡ hasRoom (lent (now (line .entry)) (now (parents .entry)) (now (table .entry)) (now (space .entry))) ⌝ }
 {
-    bytes as u64 <= u64::MAX - state.line
+    (LINE_ROOM <= line.len())
+        & ((LIST_ROOM <= parents.len())
+            & ((TABLE_ROOM <= table.len()) & (SPACE_ROOM <= space.len())))
+}
+
+// Whether the phase's numbers can be those of a list that the program takes.
+fn phase_fits(state: State) -> bool
+    ensures { λ r. ⌜ r ≡ phaseFits (state .phase) state ⌝ }
+{
+    let phase = state.phase;
+    match phase {
+        Phase::AwaitsCount => state.line == 1,
+        Phase::AwaitsParent => (state.filled < state.count) & (state.count <= MOST_LISTED),
+        Phase::AwaitsQuestion => state.count <= MOST_LISTED,
+        Phase::AtEnd => true,
+    }
+}
+
+// Whether a line feed stands among some bytes.
+fn has_line_feed(bytes: &[u8]) -> bool
+    ensures { λ r. ⌜ r ≡ has (now (bytes .entry)) lineFeed ⌝ }
+{
+    let mut i: usize = 0;
+    while i < bytes.len() {
+        if bytes[i] == b'\n' {
+            return true;
+        }
+        i += 1;
+    }
+    false
 }

@@ -28,49 +28,26 @@ pub struct Progress {
     pub written: usize,
 }
 
-// A text behind the first bytes of the output. Answers how many they are then.
-fn put(out: &mut [u8], from: usize, text: Text) -> usize
-    requires { ⌜ from + rowRoom ≤ length (now out) ⌝ }
-    ensures { λ r. ⌜ (r ≤ length (now (out .exit))) × (take r (now (out .exit)) ≡ take from (now (out .entry)) ++ said (text .bytes) (text .count)) ⌝ }
-{
-    let bytes = text.bytes;
-    let count = text.count;
-    let mut i: usize = 0;
-    while i < count && i < ROW_ROOM {
-        out[from + i] = bytes[i];
-        i += 1;
-    }
-    from + i
-}
-
-// One byte more.
-fn byte(
+// A piece of the input. Where state and buffers do not fit, the program is at its end.
+pub fn feed(
     state: State,
-    b: u8,
+    input: &[u8],
     line: &mut [u8],
+    out: &mut [u8],
     parents: &mut [u32],
     table: &mut [u32],
     space: &mut [u32],
-) -> Stepped
-    requires { ⌜ Ready state 1 (lent (now line) (now parents) (now table) (now space)) ⌝ }
-    ensures { λ r. ⌜ ByteFed state (lent (now (line .entry)) (now (parents .entry)) (now (table .entry)) (now (space .entry))) b (said (r .text .bytes) (r .text .count)) (r .state) (lent (now (line .exit)) (now (parents .exit)) (now (table .exit)) (now (space .exit))) ⌝ }
+) -> Progress
+    ensures counts { λ r. ⌜ Counted (length (now (input .entry))) (length (now (out .exit))) r ⌝ }
+    ensures printed { λ r. ⌜ FedPiece state (lent (now (line .entry)) (now (parents .entry)) (now (table .entry)) (now (space .entry))) (now (input .entry)) r (now (out .exit)) (lent (now (line .exit)) (now (parents .exit)) (now (table .exit)) (now (space .exit))) ⌝ }
 {
-    if is_at_end(state) {
-        return ends(nothing());
+    if is_numbered(state, input.len()) & is_fit(state, line, parents, table, space) {
+        return read_bytes(state, input, line, out, parents, table, space);
     }
-    let held = state.held;
-    if b == b'\n' {
-        return whole_line(state, &line[0..held], parents, table, space);
-    }
-    if LINE_ROOM <= held {
-        return ends(bad_line(state.line));
-    }
-    line[held] = b;
-    let mut next = state;
-    next.held = held + 1;
-    Stepped {
-        state: next,
-        text: nothing(),
+    Progress {
+        state: end_state(),
+        used: input.len(),
+        written: 0,
     }
 }
 
@@ -106,27 +83,61 @@ fn read_bytes(
     }
 }
 
-// A piece of the input. Where state and buffers do not fit, the program is at its end.
-pub fn feed(
+// One byte more.
+fn byte(
     state: State,
-    input: &[u8],
+    b: u8,
     line: &mut [u8],
-    out: &mut [u8],
     parents: &mut [u32],
     table: &mut [u32],
     space: &mut [u32],
-) -> Progress
-    ensures counts { λ r. ⌜ Counted (length (now (input .entry))) (length (now (out .exit))) r ⌝ }
-    ensures printed { λ r. ⌜ FedPiece state (lent (now (line .entry)) (now (parents .entry)) (now (table .entry)) (now (space .entry))) (now (input .entry)) r (now (out .exit)) (lent (now (line .exit)) (now (parents .exit)) (now (table .exit)) (now (space .exit))) ⌝ }
+) -> Stepped
+    requires { ⌜ Ready state 1 (lent (now line) (now parents) (now table) (now space)) ⌝ }
+    ensures { λ r. ⌜ ByteFed state (lent (now (line .entry)) (now (parents .entry)) (now (table .entry)) (now (space .entry))) b (said (r .text .bytes) (r .text .count)) (r .state) (lent (now (line .exit)) (now (parents .exit)) (now (table .exit)) (now (space .exit))) ⌝ }
 {
-    if is_numbered(state, input.len()) & is_fit(state, line, parents, table, space) {
-        return read_bytes(state, input, line, out, parents, table, space);
+    if is_at_end(state) {
+        return ends(nothing());
     }
-    Progress {
-        state: end_state(),
-        used: input.len(),
-        written: 0,
+    let held = state.held;
+    if b == b'\n' {
+        return whole_line(state, &line[0..held], parents, table, space);
     }
+    if LINE_ROOM <= held {
+        return ends(bad_line(state.line));
+    }
+    line[held] = b;
+    let mut next = state;
+    next.held = held + 1;
+    Stepped {
+        state: next,
+        text: nothing(),
+    }
+}
+
+// A text behind the first bytes of the output. Answers how many they are then.
+fn put(out: &mut [u8], from: usize, text: Text) -> usize
+    requires { ⌜ from + rowRoom ≤ length (now out) ⌝ }
+    ensures { λ r. ⌜ (r ≤ length (now (out .exit))) × (take r (now (out .exit)) ≡ take from (now (out .entry)) ++ said (text .bytes) (text .count)) ⌝ }
+{
+    let bytes = text.bytes;
+    let count = text.count;
+    let mut i: usize = 0;
+    while i < count && i < ROW_ROOM {
+        out[from + i] = bytes[i];
+        i += 1;
+    }
+    from + i
+}
+
+// The end of the input. Answers how many bytes were printed: none, where the output has no room for a row.
+pub fn finish(state: State, out: &mut [u8]) -> usize
+    ensures fits { λ r. ⌜ r ≤ length (now (out .exit)) ⌝ }
+    ensures printed { λ r. ⌜ take r (now (out .exit)) ≡ lastText state (length (now (out .entry))) ⌝ }
+{
+    if out.len() < ROW_ROOM {
+        return 0;
+    }
+    put(out, 0, last_text(state))
 }
 
 // What the end of the input prints.
@@ -145,15 +156,4 @@ fn last_text(state: State) -> Text
         }
         Phase::AtEnd => nothing(),
     }
-}
-
-// The end of the input. Answers how many bytes were printed: none, where the output has no room for a row.
-pub fn finish(state: State, out: &mut [u8]) -> usize
-    ensures fits { λ r. ⌜ r ≤ length (now (out .exit)) ⌝ }
-    ensures printed { λ r. ⌜ take r (now (out .exit)) ≡ lastText state (length (now (out .entry))) ⌝ }
-{
-    if out.len() < ROW_ROOM {
-        return 0;
-    }
-    put(out, 0, last_text(state))
 }

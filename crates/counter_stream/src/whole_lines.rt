@@ -35,42 +35,24 @@ pub struct Stepped {
     pub text: Text,
 }
 
-// A text, and the end behind it.
-pub(crate) fn ends(text: Text) -> Stepped
-    ensures { λ r. ⌜ r ≡ record { state = endState; text = text } ⌝ }
+// A whole line, in any phase.
+pub(crate) fn whole_line(
+    state: State,
+    line: &[u8],
+    parents: &mut [u32],
+    table: &mut [u32],
+    space: &mut [u32],
+) -> Stepped
+    requires { ⌜ LineDue state (now parents) (now table) (now space) ⌝ }
+    ensures { λ r. ⌜ Turned (onLine (stageAt (state .phase) state (now (parents .entry)) (now (table .entry))) (now (line .entry))) (state .line + 1) (r .state) (now (parents .exit)) (now (table .exit)) (said (r .text .bytes) (r .text .count)) ⌝ }
 {
-    Stepped {
-        state: end_state(),
-        text,
+    let phase = state.phase;
+    match phase {
+        Phase::AwaitsCount => count_line(line, parents, table, space),
+        Phase::AwaitsParent => parent_line(state, line, parents, table, space),
+        Phase::AwaitsQuestion => question_line(state, line, table),
+        Phase::AtEnd => ends(nothing()),
     }
-}
-
-// The list so far: prepared once it is whole.
-fn list_so_far(state: State, parents: &[u32], table: &mut [u32], space: &mut [u32]) -> Stepped
-    requires { ⌜ ListDue state (now parents) (now table) (now space) ⌝ }
-    ensures { λ r. ⌜ Turned (listed (state .count - state .filled) (take (state .filled) (now (parents .entry))) (state .line)) (state .line) (r .state) (now (parents .entry)) (now (table .exit)) (said (r .text .bytes) (r .text .count)) ⌝ }
-{
-    if state.filled < state.count {
-        return Stepped {
-            state,
-            text: nothing(),
-        };
-    }
-    let n = state.count as usize;
-    let reply = prepare(&parents[0..n], table, space);
-    if reply.number == ACCEPTED {
-        return Stepped {
-            state: State {
-                phase: Phase::AwaitsQuestion,
-                line: state.line,
-                count: state.count,
-                filled: state.filled,
-                held: 0,
-            },
-            text: header_row(),
-        };
-    }
-    ends(bad_list(reply.number, reply.word))
 }
 
 // The line of the count.
@@ -119,6 +101,34 @@ fn parent_line(
     list_so_far(next, parents, table, space)
 }
 
+// The list so far: prepared once it is whole.
+fn list_so_far(state: State, parents: &[u32], table: &mut [u32], space: &mut [u32]) -> Stepped
+    requires { ⌜ ListDue state (now parents) (now table) (now space) ⌝ }
+    ensures { λ r. ⌜ Turned (listed (state .count - state .filled) (take (state .filled) (now (parents .entry))) (state .line)) (state .line) (r .state) (now (parents .entry)) (now (table .exit)) (said (r .text .bytes) (r .text .count)) ⌝ }
+{
+    if state.filled < state.count {
+        return Stepped {
+            state,
+            text: nothing(),
+        };
+    }
+    let n = state.count as usize;
+    let reply = prepare(&parents[0..n], table, space);
+    if reply.number == ACCEPTED {
+        return Stepped {
+            state: State {
+                phase: Phase::AwaitsQuestion,
+                line: state.line,
+                count: state.count,
+                filled: state.filled,
+                held: 0,
+            },
+            text: header_row(),
+        };
+    }
+    ends(bad_list(reply.number, reply.word))
+}
+
 // The line of a question.
 fn question_line(state: State, line: &[u8], table: &[u32]) -> Stepped
     requires { ⌜ (state .count ≤ mostListed) × (state .line < mostLine) × (tableWords mostListed ≤ length (now table)) ⌝ }
@@ -148,22 +158,12 @@ fn question_line(state: State, line: &[u8], table: &[u32]) -> Stepped
     }
 }
 
-// A whole line, in any phase.
-pub(crate) fn whole_line(
-    state: State,
-    line: &[u8],
-    parents: &mut [u32],
-    table: &mut [u32],
-    space: &mut [u32],
-) -> Stepped
-    requires { ⌜ LineDue state (now parents) (now table) (now space) ⌝ }
-    ensures { λ r. ⌜ Turned (onLine (stageAt (state .phase) state (now (parents .entry)) (now (table .entry))) (now (line .entry))) (state .line + 1) (r .state) (now (parents .exit)) (now (table .exit)) (said (r .text .bytes) (r .text .count)) ⌝ }
+// A text, and the end behind it.
+pub(crate) fn ends(text: Text) -> Stepped
+    ensures { λ r. ⌜ r ≡ record { state = endState; text = text } ⌝ }
 {
-    let phase = state.phase;
-    match phase {
-        Phase::AwaitsCount => count_line(line, parents, table, space),
-        Phase::AwaitsParent => parent_line(state, line, parents, table, space),
-        Phase::AwaitsQuestion => question_line(state, line, table),
-        Phase::AtEnd => ends(nothing()),
+    Stepped {
+        state: end_state(),
+        text,
     }
 }

@@ -12,7 +12,8 @@ use lib.Dec.{eqb, ltb}
 use borrow.Author.Tests.{eqb-true, ltb-true, eq-eqb, ne-eqb, lt-ltb, le-ltb, not-false}
 use Rattle.base.specs.Lists.{each, below, first}
 use Rattle.base.proofs.Lists.{first-is, none-first, first-none, first-some}
-use Rattle.tree.specs.Parents.{topMark, word}
+use Rattle.base.specs.Limits.{topMark}
+use Rattle.tree.specs.Parents.{word}
 use Rattle.tree.specs.Faults.{isStray}
 use Rattle.judge.specs.Regions.{orAll, NoStray}
 

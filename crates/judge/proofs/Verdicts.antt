@@ -8,9 +8,9 @@ use native.Mathlib.Omega.{arith}
 use lib.ListN.{length, drop, replicate}
 use borrow.Author.Tests.{lt-ltb, le-ltb}
 use Rattle.base.specs.Numbers.{Outcome, accepted, count, shortSpace, stray, tops, loop, Says}
-use Rattle.base.specs.Limits.{spaceWords}
+use Rattle.base.specs.Limits.{spaceWords, topMark}
 use Rattle.base.proofs.Lists.{none-first, clash}
-use Rattle.tree.specs.Parents.{topMark, word, children}
+use Rattle.tree.specs.Parents.{word, children}
 use Rattle.tree.specs.Forest.{order}
 use Rattle.tree.specs.Faults.{lowest, isStray, topsFault, meetsTop, loopFault, listFault}
 use Rattle.tree.proofs.Forests.{full-meets}

@@ -7,7 +7,8 @@ use mathlib.Core.Option.{Option, none, some}
 use Prim.Native.Nat.{ℕ, suc, _*_, _≤_, _<_}
 use lib.ListN.{length, getD, drop}
 use Rattle.base.specs.Lists.{places, view}
-use Rattle.tree.specs.Parents.{topMark, word, depth}
+use Rattle.base.specs.Limits.{topMark}
+use Rattle.tree.specs.Parents.{word, depth}
 use Rattle.tree.specs.Forest.{order}
 use Rattle.tree.specs.Faults.{meetsTop}
 

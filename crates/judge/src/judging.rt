@@ -20,17 +20,18 @@ use base::numbers::SHORT_SPACE;
 
 const MOST: usize = MOST_ENTRIES as usize;
 
-// Whether a list of n entries is not turned away for its count.
-pub fn countable(n: usize) -> bool
-    ensures { λ r. ⌜ countFault n ≡ cond r none (some count) ⌝ }
+// Whether a parent list forms one tree (0 names n), and if not, why. The space is left zero where it was used, and else unchanged.
+pub fn judge(parents: &[u32], space: &mut [u32]) -> Reply
+    ensures answer { λ r. ⌜ Says (judging (now (parents .entry)) (length (now (space .entry)))) (r .number) (r .word) ⌝ }
+    ensures numbers { λ r. ⌜ has (0 ∷ 1 ∷ 3 ∷ 4 ∷ 5 ∷ 6 ∷ []) (r .number) ≡ true ⌝ }
+    ensures left { λ _. ⌜ now (space .exit) ≡ judgedSpace (now (parents .entry)) (now (space .entry)) ⌝ }
 {
-    if n == 0 {
-        return false;
+    let found = preorder(parents, space);
+    if found.number != ACCEPTED {
+        return found;
     }
-    if MOST < n {
-        return false;
-    }
-    true
+    clear(space, REGIONS * parents.len());
+    found
 }
 
 // Whether a parent list forms one tree (0 names n), and if not, why. A list that does leaves its preorder and its depths in the space; a refusal leaves
@@ -64,16 +65,15 @@ pub fn preorder(parents: &[u32], space: &mut [u32]) -> Reply
     found
 }
 
-// Whether a parent list forms one tree (0 names n), and if not, why. The space is left zero where it was used, and else unchanged.
-pub fn judge(parents: &[u32], space: &mut [u32]) -> Reply
-    ensures answer { λ r. ⌜ Says (judging (now (parents .entry)) (length (now (space .entry)))) (r .number) (r .word) ⌝ }
-    ensures numbers { λ r. ⌜ has (0 ∷ 1 ∷ 3 ∷ 4 ∷ 5 ∷ 6 ∷ []) (r .number) ≡ true ⌝ }
-    ensures left { λ _. ⌜ now (space .exit) ≡ judgedSpace (now (parents .entry)) (now (space .entry)) ⌝ }
+// Whether a list of n entries is not turned away for its count.
+pub fn countable(n: usize) -> bool
+    ensures { λ r. ⌜ countFault n ≡ cond r none (some count) ⌝ }
 {
-    let found = preorder(parents, space);
-    if found.number != ACCEPTED {
-        return found;
+    if n == 0 {
+        return false;
     }
-    clear(space, REGIONS * parents.len());
-    found
+    if MOST < n {
+        return false;
+    }
+    true
 }

@@ -16,6 +16,18 @@ use base::Node;
 use base::Position;
 use base::set_all;
 
+// The lowest entry whose climb never meets the top, where there is one.
+pub(crate) fn first_lost(parents: &[u32], count: usize, space: &mut [u32]) -> Node
+    requires { ⌜ (length (now parents) ≤ mostEntries) × (spaceWords (length (now parents)) ≤ length (now space)) × (count ≡ length (order (now parents))) × (view 0 count (now space) ≡ order (now parents)) × (count < length (now parents)) ⌝ }
+    ensures { λ r. ⌜ (r .0 < length (now (parents .entry))) × (lowest (now (parents .entry)) (λ v. not (meetsTop (now (parents .entry)) v)) ≡ some (r .0)) ⌝ }
+{
+    mark(parents, count, space);
+    let n = parents.len();
+    let a = MARKS * n;
+    let b = REGIONS * n;
+    first_unmarked(&space[a..b])
+}
+
 // Marks the entries of the preorder in region 5.
 fn mark(parents: &[u32], count: usize, space: &mut [u32])
     requires { ⌜ (length (now parents) ≤ mostEntries) × (spaceWords (length (now parents)) ≤ length (now space)) × (count ≡ length (order (now parents))) × (view 0 count (now space) ≡ order (now parents)) ⌝ }
@@ -47,16 +59,4 @@ fn first_unmarked(marks: &[u32]) -> Node
         v = Node(v.0 + 1);
     }
     v
-}
-
-// The lowest entry whose climb never meets the top, where there is one.
-pub(crate) fn first_lost(parents: &[u32], count: usize, space: &mut [u32]) -> Node
-    requires { ⌜ (length (now parents) ≤ mostEntries) × (spaceWords (length (now parents)) ≤ length (now space)) × (count ≡ length (order (now parents))) × (view 0 count (now space) ≡ order (now parents)) × (count < length (now parents)) ⌝ }
-    ensures { λ r. ⌜ (r .0 < length (now (parents .entry))) × (lowest (now (parents .entry)) (λ v. not (meetsTop (now (parents .entry)) v)) ≡ some (r .0)) ⌝ }
-{
-    mark(parents, count, space);
-    let n = parents.len();
-    let a = MARKS * n;
-    let b = REGIONS * n;
-    first_unmarked(&space[a..b])
 }

@@ -10,7 +10,7 @@ use lib.ListN.{length, getD, take, drop, length-drop}
 use lib.Seq.{take-all}
 use lib.Dec.{eqb}
 use borrow.Author.Tests.{not-true, not-false}
-use Rattle.tree.specs.Parents.{topMark}
+use Rattle.base.specs.Limits.{topMark}
 use Rattle.lines.specs.Text.{comma, dash}
 use Rattle.lines.specs.Fields.{isNumber, number, single, countOf, parentField, parentOf}
 use Rattle.lines.specs.Results.{headed}

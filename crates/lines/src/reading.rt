@@ -22,39 +22,6 @@ pub enum Asked {
     Other,
 }
 
-// A field of one to ten digits, at most 4,294,967,295.
-pub fn read_number(field: &[u8]) -> Found
-    ensures { λ r. ⌜ foundOf r ≡ number (now (field .entry)) ⌝ }
-{
-    if field.len() == 0 || 10 < field.len() {
-        return Found::Other;
-    }
-    let mut value: u64 = 0;
-    let mut i: usize = 0;
-    while i < field.len() {
-        let b = field[i];
-        if b < b'0' || b'9' < b {
-            return Found::Other;
-        }
-        value = 10 * value + (b - b'0') as u64;
-        i += 1;
-    }
-    if MOST_NUMBER < value {
-        return Found::Other;
-    }
-    Found::Number(value as u32)
-}
-
-// Whether a line has a stated letter for its first field, and a field behind it.
-fn has_letter(line: &[u8], letter: u8) -> bool
-    ensures { λ r. ⌜ r ≡ headed letter (now (line .entry)) ⌝ }
-{
-    if line.len() < 2 {
-        return false;
-    }
-    line[0] == letter && line[1] == b','
-}
-
 // `N,count`.
 pub fn read_count(line: &[u8]) -> Found
     ensures { λ r. ⌜ foundOf r ≡ countOf (now (line .entry)) ⌝ }
@@ -78,21 +45,6 @@ pub fn read_parent(line: &[u8]) -> Found
     read_number(&line[2..])
 }
 
-// The place of the first comma from a place on, or the length.
-fn comma_from(line: &[u8], from: usize) -> usize
-    requires { ⌜ from ≤ length (now line) ⌝ }
-    ensures { λ r. ⌜ NextComma (now (line .entry)) from r ⌝ }
-{
-    let mut i = from;
-    while i < line.len() {
-        if line[i] == b',' {
-            return i;
-        }
-        i += 1;
-    }
-    line.len()
-}
-
 // `Q,entry,depth`.
 pub fn read_question(line: &[u8]) -> Asked
     ensures { λ r. ⌜ askedOf r ≡ questionOf (now (line .entry)) ⌝ }
@@ -114,4 +66,52 @@ pub fn read_question(line: &[u8]) -> Asked
         entry: Node(entry),
         depth,
     }
+}
+
+// Whether a line has a stated letter for its first field, and a field behind it.
+fn has_letter(line: &[u8], letter: u8) -> bool
+    ensures { λ r. ⌜ r ≡ headed letter (now (line .entry)) ⌝ }
+{
+    if line.len() < 2 {
+        return false;
+    }
+    line[0] == letter && line[1] == b','
+}
+
+// The place of the first comma from a place on, or the length.
+fn comma_from(line: &[u8], from: usize) -> usize
+    requires { ⌜ from ≤ length (now line) ⌝ }
+    ensures { λ r. ⌜ NextComma (now (line .entry)) from r ⌝ }
+{
+    let mut i = from;
+    while i < line.len() {
+        if line[i] == b',' {
+            return i;
+        }
+        i += 1;
+    }
+    line.len()
+}
+
+// A field of one to ten digits, at most 4,294,967,295.
+pub fn read_number(field: &[u8]) -> Found
+    ensures { λ r. ⌜ foundOf r ≡ number (now (field .entry)) ⌝ }
+{
+    if field.len() == 0 || 10 < field.len() {
+        return Found::Other;
+    }
+    let mut value: u64 = 0;
+    let mut i: usize = 0;
+    while i < field.len() {
+        let b = field[i];
+        if b < b'0' || b'9' < b {
+            return Found::Other;
+        }
+        value = 10 * value + (b - b'0') as u64;
+        i += 1;
+    }
+    if MOST_NUMBER < value {
+        return Found::Other;
+    }
+    Found::Number(value as u32)
 }

@@ -7,8 +7,8 @@ use Prim.Native.Nat.{ℕ}
 use lib.ListN.{length}
 use Rattle.base.specs.Lists.{each, keep, first, index, every, some?, places, padded}
 use Rattle.base.specs.Numbers.{Outcome, accepted, count, stray, tops, loop, unknown, tooDeep}
-use Rattle.base.specs.Limits.{groupLimit, tableWords, spaceWords}
-use Rattle.tree.specs.Parents.{topMark, entry, parent, climbWithin, depth}
+use Rattle.base.specs.Limits.{groupLimit, tableWords, spaceWords, topMark}
+use Rattle.tree.specs.Parents.{entry, parent, climbWithin, depth}
 use Rattle.tree.specs.Parents.{up as climbUp}
 use Rattle.tree.specs.Forest.{plant, grow, preorder, forestSize, forestHeight, tallest, spine, pathTop}
 use Rattle.tree.specs.Faults.{isStray, meetsTop, listFault}

@@ -9,7 +9,8 @@ use lib.Seq.{ext-getD}
 use Rattle.base.specs.Lists.{view}
 use Rattle.base.proofs.Lists.{at-any}
 use Rattle.base.proofs.Views.{view-length, view-at}
-use Rattle.tree.specs.Parents.{topMark, parent}
+use Rattle.base.specs.Limits.{topMark}
+use Rattle.tree.specs.Parents.{parent}
 use Rattle.tree.specs.Forest.{order, position}
 use Rattle.tree.proofs.Climbs.{parent-some}
 use Rattle.tree.proofs.OneTree.{root-in}

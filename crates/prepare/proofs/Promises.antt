@@ -9,10 +9,10 @@ use native.Mathlib.Omega.{arith}
 use lib.ListN.{length, drop, length-append, length-drop}
 use lib.Seq.{take-at}
 use Rattle.base.specs.Lists.{below, has}
-use Rattle.base.specs.Limits.{mostEntries, groupLimit, jumpRoom, recordWords, tableWords, spaceWords}
+use Rattle.base.specs.Limits.{mostEntries, groupLimit, jumpRoom, recordWords, tableWords, spaceWords, topMark}
 use Rattle.base.proofs.Lists.{each-length}
 use Rattle.base.proofs.Joins.{padded-length}
-use Rattle.tree.specs.Parents.{topMark, depth}
+use Rattle.tree.specs.Parents.{depth}
 use Rattle.tree.specs.Forest.{size, order, position}
 use Rattle.tree.specs.Faults.{Tree}
 use Rattle.tree.proofs.Positions.{order-length}

@@ -4,9 +4,9 @@ use mathlib.Core.List.{List, map}
 use mathlib.Core.Option.{some, Option·elim}
 use Prim.Native.Nat.{ℕ, _+_, _-_, _≤_, _<_}
 use lib.ListN.{length, getD}
-use Rattle.base.specs.Limits.{mostEntries, groupLimit}
+use Rattle.base.specs.Limits.{mostEntries, groupLimit, topMark}
 use Rattle.base.specs.Lists.{below}
-use Rattle.tree.specs.Parents.{topMark, parent, up, depth}
+use Rattle.tree.specs.Parents.{parent, up, depth}
 use Rattle.tree.specs.Forest.{size, order, position, longChild}
 use Rattle.tree.specs.Faults.{Tree}
 use Rattle.table.specs.Groups.{kind}

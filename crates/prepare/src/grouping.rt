@@ -3,7 +3,8 @@ ghost use mathlib.Core.Path.{_≡_};
 ghost use mathlib.Core.Option.{Option·getD};
 ghost use Prim.Native.Nat.{_*_, _<_};
 ghost use lib.ListN.{length};
-ghost use Rattle.tree.specs.Parents.{topMark, parent};
+ghost use Rattle.base.specs.Limits.{topMark};
+ghost use Rattle.tree.specs.Parents.{parent};
 ghost use Rattle.table.specs.Table.{groupCells};
 ghost use Rattle.prepare.specs.Arrays.{OneTree, entryAt, entriesOf, depthsOf, sizesOf, abovesOf};
 use crate::places::GROUP_WORDS;
@@ -11,18 +12,6 @@ use base::Position;
 use base::limits::GROUP_LIMIT;
 use base::limits::TOP_MARK;
 use base::set_all;
-
-// The entry above the one at a position, or the top mark.
-fn parent_word(parents: &[u32], order: &[u32], above: &[u32], at: Position) -> u32
-    requires { ⌜ OneTree (now parents) × (now order ≡ entriesOf (now parents)) × (now above ≡ abovesOf (now parents)) × (at .0 < length (now parents)) ⌝ }
-    ensures { λ r. ⌜ r ≡ Option·getD (parent (now (parents .entry)) (entryAt (now (parents .entry)) (at .0))) topMark ⌝ }
-{
-    if at.0 == 0 {
-        return TOP_MARK;
-    }
-    let over = Position(above[at.0 as usize]);
-    order[over.0 as usize]
-}
 
 // GROUPS: each group's position, shape and parent, in preorder, and zeros behind. A position of size 5 or less, past the groups before it, starts the next.
 pub(crate) fn groups(
@@ -52,4 +41,16 @@ pub(crate) fn groups(
         }
     }
     set_all(&mut cells[cell..], 0);
+}
+
+// The entry above the one at a position, or the top mark.
+fn parent_word(parents: &[u32], order: &[u32], above: &[u32], at: Position) -> u32
+    requires { ⌜ OneTree (now parents) × (now order ≡ entriesOf (now parents)) × (now above ≡ abovesOf (now parents)) × (at .0 < length (now parents)) ⌝ }
+    ensures { λ r. ⌜ r ≡ Option·getD (parent (now (parents .entry)) (entryAt (now (parents .entry)) (at .0))) topMark ⌝ }
+{
+    if at.0 == 0 {
+        return TOP_MARK;
+    }
+    let over = Position(above[at.0 as usize]);
+    order[over.0 as usize]
 }

@@ -2,9 +2,8 @@
 ghost use mathlib.Core.Path.{_≡_};
 ghost use Prim.Native.Nat.{ℕ, _+_, _*_, _≤_, _<_};
 ghost use lib.ListN.{length, getD, set, replicate};
-ghost use Rattle.base.specs.Limits.{mostEntries, spaceWords};
+ghost use Rattle.base.specs.Limits.{mostEntries, spaceWords, topMark};
 ghost use Rattle.base.specs.Lists.{put};
-ghost use Rattle.tree.specs.Parents.{topMark};
 ghost use Rattle.prepare.specs.Arrays.{OneTree, entryAt, abovePosition, depthsOf, abovesOf};
 ghost use Rattle.prepare.specs.Stages.{Linked, Measured};
 use crate::places::ABOVES;
@@ -15,6 +14,20 @@ use crate::places::SIZES;
 use base::Position;
 use base::limits::TOP_MARK;
 use base::set_all;
+
+// ABOVE: the position of the entry above, or the top mark.
+pub(crate) fn above(parents: &[u32], depth: &[u32], cells: &mut [u32])
+    requires { ⌜ OneTree (now parents) × (now depth ≡ depthsOf (now parents)) × (length (now cells) ≡ length (now depth)) ⌝ }
+    ensures { λ _. ⌜ now (cells .exit) ≡ abovesOf (now (parents .entry)) ⌝ }
+{
+    cells[0] = TOP_MARK;
+    let mut at = Position(1);
+    while (at.0 as usize) < depth.len() {
+        let over = higher(parents, depth, cells, at);
+        cells[at.0 as usize] = over.0;
+        at = Position(at.0 + 1);
+    }
+}
 
 // The position of the entry above: the nearest on the climb from the position before that is less deep.
 fn higher(parents: &[u32], depth: &[u32], above: &[u32], at: Position) -> Position
@@ -29,17 +42,21 @@ fn higher(parents: &[u32], depth: &[u32], above: &[u32], at: Position) -> Positi
     over
 }
 
-// ABOVE: the position of the entry above, or the top mark.
-pub(crate) fn above(parents: &[u32], depth: &[u32], cells: &mut [u32])
-    requires { ⌜ OneTree (now parents) × (now depth ≡ depthsOf (now parents)) × (length (now cells) ≡ length (now depth)) ⌝ }
-    ensures { λ _. ⌜ now (cells .exit) ≡ abovesOf (now (parents .entry)) ⌝ }
+// SIZE, HEIGHT and LONG by position into regions 2, 4 and 5 of the working space, from ABOVE in region 3 and the last position down: of children of one
+// height the first is met last.
+pub(crate) fn measures(parents: &[u32], space: &mut [u32])
+    requires { ⌜ Linked (now parents) (now space) ⌝ }
+    ensures { λ _. ⌜ Measured (now (parents .entry)) (now (space .exit)) ⌝ }
 {
-    cells[0] = TOP_MARK;
-    let mut at = Position(1);
-    while (at.0 as usize) < depth.len() {
-        let over = higher(parents, depth, cells, at);
-        cells[at.0 as usize] = over.0;
-        at = Position(at.0 + 1);
+    let n = parents.len();
+    alone(n, space);
+    let mut end = Position(n as u32);
+    while 1 < end.0 {
+        let at = Position(end.0 - 1);
+        let over = Position(space[ABOVES * n + at.0 as usize]);
+        count(n, space, at, over);
+        lift(n, space, at, over);
+        end = at;
     }
 }
 
@@ -71,23 +88,5 @@ fn lift(n: usize, space: &mut [u32], at: Position, over: Position)
     if space[HEIGHTS * n + over.0 as usize] <= rise {
         space[HEIGHTS * n + over.0 as usize] = rise;
         space[LONGS * n + over.0 as usize] = at.0;
-    }
-}
-
-// SIZE, HEIGHT and LONG by position into regions 2, 4 and 5 of the working space, from ABOVE in region 3 and the last position down: of children of one
-// height the first is met last.
-pub(crate) fn measures(parents: &[u32], space: &mut [u32])
-    requires { ⌜ Linked (now parents) (now space) ⌝ }
-    ensures { λ _. ⌜ Measured (now (parents .entry)) (now (space .exit)) ⌝ }
-{
-    let n = parents.len();
-    alone(n, space);
-    let mut end = Position(n as u32);
-    while 1 < end.0 {
-        let at = Position(end.0 - 1);
-        let over = Position(space[ABOVES * n + at.0 as usize]);
-        count(n, space, at, over);
-        lift(n, space, at, over);
-        end = at;
     }
 }

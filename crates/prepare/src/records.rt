@@ -24,34 +24,6 @@ use crate::spread::copy;
 use base::Node;
 use base::set_all;
 
-// The record of an entry, from DEPTH, LADPOS and the ladders, which lie wherever they are said to, into the words from `at` on.
-fn fill_record(parents: &[u32], table: &mut [u32], ladders: usize, at: usize, v: Node)
-    requires { ⌜ Reached (now parents) ladders (now table) × (v .0 < length (now parents)) × (at + recordWords ≤ length (now table)) ⌝ }
-    ensures { λ _. ⌜ now (table .exit) ≡ put (now (table .entry)) at (jumpRecord (now (parents .entry)) (v .0)) ⌝ }
-{
-    let n = parents.len();
-    let a = HEADER_CELLS + LADPOS * n;
-    let b = a + n;
-    let end = ladders + LADDER_WORDS * n;
-    let deep = table[HEADER_CELLS + v.0 as usize];
-    let words = record(parents, &table[a..b], &table[ladders..end], deep, v);
-    copy(&words[..], &mut table[at..at + RECORD_WORDS]);
-}
-
-// The records of the entries of a list, one behind another. Where the ladders lie is worked out once.
-fn records(parents: &[u32], table: &mut [u32], ladders: usize, first: usize, nodes: &[u32])
-    requires { ⌜ Reached (now parents) ladders (now table) × (4 + 3 * length (now parents) ≤ first) × (ladders + 2 * length (now parents) ≤ first) × (first + recordWords * length (now nodes) ≤ length (now table)) × ((i : ℕ) → i < length (now nodes) → getD (now nodes) i 0 < length (now parents)) ⌝ }
-    ensures { λ _. ⌜ now (table .exit) ≡ put (now (table .entry)) first (flatMap (jumpRecord (now (parents .entry))) (now (nodes .entry))) ⌝ }
-{
-    let mut at = first;
-    let mut i: usize = 0;
-    while i < nodes.len() {
-        fill_record(parents, table, ladders, at, Node(nodes[i]));
-        at += RECORD_WORDS;
-        i += 1;
-    }
-}
-
 // JUMPS, with the list of the jump entries in region 2.
 pub(crate) fn jump_section(parents: &[u32], jumps: u32, table: &mut [u32], space: &mut [u32])
     requires { ⌜ Walked (now parents) (now space) × Sectioned (now parents) (now table) × (length (now table) ≡ tableWords (length (now parents))) × (jumps ≡ length (jumpNodes groupLimit (now parents))) ⌝ }
@@ -74,4 +46,32 @@ pub(crate) fn jump_section(parents: &[u32], jumps: u32, table: &mut [u32], space
         first,
         &space[b..b + jumps as usize],
     );
+}
+
+// The records of the entries of a list, one behind another. Where the ladders lie is worked out once.
+fn records(parents: &[u32], table: &mut [u32], ladders: usize, first: usize, nodes: &[u32])
+    requires { ⌜ Reached (now parents) ladders (now table) × (4 + 3 * length (now parents) ≤ first) × (ladders + 2 * length (now parents) ≤ first) × (first + recordWords * length (now nodes) ≤ length (now table)) × ((i : ℕ) → i < length (now nodes) → getD (now nodes) i 0 < length (now parents)) ⌝ }
+    ensures { λ _. ⌜ now (table .exit) ≡ put (now (table .entry)) first (flatMap (jumpRecord (now (parents .entry))) (now (nodes .entry))) ⌝ }
+{
+    let mut at = first;
+    let mut i: usize = 0;
+    while i < nodes.len() {
+        fill_record(parents, table, ladders, at, Node(nodes[i]));
+        at += RECORD_WORDS;
+        i += 1;
+    }
+}
+
+// The record of an entry, from DEPTH, LADPOS and the ladders, which lie wherever they are said to, into the words from `at` on.
+fn fill_record(parents: &[u32], table: &mut [u32], ladders: usize, at: usize, v: Node)
+    requires { ⌜ Reached (now parents) ladders (now table) × (v .0 < length (now parents)) × (at + recordWords ≤ length (now table)) ⌝ }
+    ensures { λ _. ⌜ now (table .exit) ≡ put (now (table .entry)) at (jumpRecord (now (parents .entry)) (v .0)) ⌝ }
+{
+    let n = parents.len();
+    let a = HEADER_CELLS + LADPOS * n;
+    let b = a + n;
+    let end = ladders + LADDER_WORDS * n;
+    let deep = table[HEADER_CELLS + v.0 as usize];
+    let words = record(parents, &table[a..b], &table[ladders..end], deep, v);
+    copy(&words[..], &mut table[at..at + RECORD_WORDS]);
 }

@@ -29,6 +29,19 @@ use crate::places::SIZES;
 use crate::spread::copy;
 use base::limits::header_of;
 
+// KIND, SIZE and GROUPS.
+pub(crate) fn family_sections(parents: &[u32], table: &mut [u32], space: &[u32]) -> Counts
+    requires { ⌜ Measured (now parents) (now space) × (length (now table) ≡ tableWords (length (now parents))) ⌝ }
+    ensures counts { λ r. ⌜ (r .groups ≡ length (groupRoots groupLimit (now (parents .entry)))) × (r .jumps ≡ length (jumpNodes groupLimit (now (parents .entry)))) ⌝ }
+    ensures laid { λ _. ⌜ Familied (now (parents .entry)) (now (table .exit)) ⌝ }
+{
+    let n = parents.len();
+    let counts = kind_section(parents, table, space);
+    by_entry(parents, space, SIZES * n, table, HEADER_CELLS + SIZE * n);
+    group_section(parents, table, space);
+    counts
+}
+
 // KIND.
 fn kind_section(parents: &[u32], table: &mut [u32], space: &[u32]) -> Counts
     requires { ⌜ Measured (now parents) (now space) × (length (now table) ≡ tableWords (length (now parents))) ⌝ }
@@ -64,17 +77,17 @@ fn group_section(parents: &[u32], table: &mut [u32], space: &[u32])
     );
 }
 
-// KIND, SIZE and GROUPS.
-pub(crate) fn family_sections(parents: &[u32], table: &mut [u32], space: &[u32]) -> Counts
-    requires { ⌜ Measured (now parents) (now space) × (length (now table) ≡ tableWords (length (now parents))) ⌝ }
-    ensures counts { λ r. ⌜ (r .groups ≡ length (groupRoots groupLimit (now (parents .entry)))) × (r .jumps ≡ length (jumpNodes groupLimit (now (parents .entry)))) ⌝ }
-    ensures laid { λ _. ⌜ Familied (now (parents .entry)) (now (table .exit)) ⌝ }
+// LADDERS and LADPOS, beside the sections that stand; hands back how many long paths there are.
+pub(crate) fn path_sections(parents: &[u32], table: &mut [u32], space: &mut [u32]) -> u32
+    requires { ⌜ Measured (now parents) (now space) × (length (now table) ≡ tableWords (length (now parents))) × Familied (now parents) (now table) ⌝ }
+    ensures paths { λ r. ⌜ r ≡ length (pathTops (now (parents .entry))) ⌝ }
+    ensures kept { λ _. ⌜ Walked (now (parents .entry)) (now (space .exit)) ⌝ }
+    ensures laid { λ _. ⌜ Familied (now (parents .entry)) (now (table .exit)) × Laddered (now (parents .entry)) (now (table .exit)) ⌝ }
 {
     let n = parents.len();
-    let counts = kind_section(parents, table, space);
-    by_entry(parents, space, SIZES * n, table, HEADER_CELLS + SIZE * n);
-    group_section(parents, table, space);
-    counts
+    let paths = ladder_section(parents, table, space);
+    by_entry(parents, space, PLACES * n, table, HEADER_CELLS + LADPOS * n);
+    paths
 }
 
 // LADDERS, with LADPOS by position in region 2; hands back how many long paths there are.
@@ -90,17 +103,15 @@ fn ladder_section(parents: &[u32], table: &mut [u32], space: &mut [u32]) -> u32
     crate::laying::paths(parents, space, &mut table[a..b])
 }
 
-// LADDERS and LADPOS, beside the sections that stand; hands back how many long paths there are.
-pub(crate) fn path_sections(parents: &[u32], table: &mut [u32], space: &mut [u32]) -> u32
-    requires { ⌜ Measured (now parents) (now space) × (length (now table) ≡ tableWords (length (now parents))) × Familied (now parents) (now table) ⌝ }
-    ensures paths { λ r. ⌜ r ≡ length (pathTops (now (parents .entry))) ⌝ }
-    ensures kept { λ _. ⌜ Walked (now (parents .entry)) (now (space .exit)) ⌝ }
-    ensures laid { λ _. ⌜ Familied (now (parents .entry)) (now (table .exit)) × Laddered (now (parents .entry)) (now (table .exit)) ⌝ }
+// DEPTH, ORDER and PRE, beside the sections that stand.
+pub(crate) fn order_sections(parents: &[u32], table: &mut [u32], space: &[u32])
+    requires { ⌜ Walked (now parents) (now space) × (length (now table) ≡ tableWords (length (now parents))) × Familied (now parents) (now table) × Laddered (now parents) (now table) ⌝ }
+    ensures { λ _. ⌜ Sectioned (now (parents .entry)) (now (table .exit)) ⌝ }
 {
     let n = parents.len();
-    let paths = ladder_section(parents, table, space);
-    by_entry(parents, space, PLACES * n, table, HEADER_CELLS + LADPOS * n);
-    paths
+    by_entry(parents, space, n, table, HEADER_CELLS);
+    carry(space, 0, table, HEADER_CELLS + ORDER * n, n);
+    pre_section(parents, table, space);
 }
 
 // PRE.
@@ -112,17 +123,6 @@ fn pre_section(parents: &[u32], table: &mut [u32], space: &[u32])
     let a = HEADER_CELLS + PRE * n;
     let b = a + n;
     crate::spread::positions(parents, &space[0..n], &mut table[a..b]);
-}
-
-// DEPTH, ORDER and PRE, beside the sections that stand.
-pub(crate) fn order_sections(parents: &[u32], table: &mut [u32], space: &[u32])
-    requires { ⌜ Walked (now parents) (now space) × (length (now table) ≡ tableWords (length (now parents))) × Familied (now parents) (now table) × Laddered (now parents) (now table) ⌝ }
-    ensures { λ _. ⌜ Sectioned (now (parents .entry)) (now (table .exit)) ⌝ }
-{
-    let n = parents.len();
-    by_entry(parents, space, n, table, HEADER_CELLS);
-    carry(space, 0, table, HEADER_CELLS + ORDER * n, n);
-    pre_section(parents, table, space);
 }
 
 // Cells 0 to 3.

@@ -10,7 +10,8 @@ use native.Mathlib.Decide.{ℕ-discrete, decLt}
 use lib.ListN.{length, getD, getElem?, drop, List·getD-eq-default}
 use Rattle.base.specs.Lists.{below}
 use Rattle.base.proofs.Lists.{below-at, each-length, each-same}
-use Rattle.tree.specs.Parents.{topMark, word, depth}
+use Rattle.base.specs.Limits.{topMark}
+use Rattle.tree.specs.Parents.{word, depth}
 use Rattle.tree.specs.Parents.{up as climbUp}
 use Rattle.tree.specs.Faults.{Tree}
 use Rattle.tree.proofs.Climbs.{parent-in, parent-some, up-step, up-first, up-from, entry-in, entry-some}

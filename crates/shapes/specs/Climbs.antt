@@ -5,7 +5,8 @@ use mathlib.Core.Option.{Option, none, some, bind, Option·elim, Option·getD}
 use Prim.Native.Nat.{ℕ, suc, _<_}
 use lib.ListN.{getD, getElem?, drop}
 use Rattle.base.specs.Lists.{below}
-use Rattle.tree.specs.Parents.{topMark, depth}
+use Rattle.base.specs.Limits.{topMark}
+use Rattle.tree.specs.Parents.{depth}
 use Rattle.tree.specs.Parents.{up as climbUp}
 use Rattle.shapes.specs.Walks.{Step, down, up, Walk, shapes}
 

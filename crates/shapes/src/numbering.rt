@@ -10,32 +10,22 @@ use base::Position;
 use base::limits::LOCAL_NUMBERS;
 use base::limits::SHAPE_COUNT;
 
-// How many walks go on from each depth, 0 to 4, with so many downs to come.
-fn ways(downs: usize) -> [u32; LOCAL_NUMBERS]
-    requires { ⌜ downs < groupLimit ⌝ }
-    ensures { λ r. ⌜ r ≡ below groupLimit (λ c. length (walks downs c)) ⌝ }
+// The number of the shape of the group whose root stands at position `from` of a list of depths in preorder and that has so many entries; 23 where
+// the depths there are not those of a group of 1 to 5 entries.
+pub fn number(depths: &[u32], from: Position, entries: usize) -> u32
+    ensures is { λ r. ⌜ OfGroup (now (depths .entry)) (from .0) entries (λ f. r ≡ shapeNumber groupLimit (walkRound f)) ⌝ }
+    ensures small { λ r. ⌜ r ≤ shapeCount ⌝ }
+    ensures none { λ r. ⌜ (OfGroup (now (depths .entry)) (from .0) entries (λ f. ⊥) → r ≡ shapeCount) ⌝ }
 {
-    match downs {
-        0 => [1, 1, 1, 1, 1],
-        1 => [1, 2, 3, 4, 5],
-        2 => [2, 5, 9, 14, 20],
-        3 => [5, 14, 28, 48, 75],
-        _ => [14, 42, 90, 165, 275],
+    if entries == 0
+        || LOCAL_NUMBERS < entries
+        || depths.len() < entries
+        || depths.len() - entries < from.0 as usize
+    {
+        return SHAPE_COUNT;
     }
-}
-
-// How many shapes have at most so many entries.
-fn smaller(entries: usize) -> u32
-    requires { ⌜ entries < groupLimit ⌝ }
-    ensures { λ r. ⌜ r ≡ length (shapes entries) ⌝ }
-{
-    match entries {
-        0 => 0,
-        1 => 1,
-        2 => 2,
-        3 => 4,
-        _ => 9,
-    }
+    let end = from.0 as usize + entries;
+    ranked(&depths[from.0 as usize..end])
 }
 
 // The number of the shape of a group, from the depths of its entries in preorder; 23 where they are not those of a group. Each entry adds the walks
@@ -65,20 +55,30 @@ fn ranked(group: &[u32]) -> u32
     sum
 }
 
-// The number of the shape of the group whose root stands at position `from` of a list of depths in preorder and that has so many entries; 23 where
-// the depths there are not those of a group of 1 to 5 entries.
-pub fn number(depths: &[u32], from: Position, entries: usize) -> u32
-    ensures is { λ r. ⌜ OfGroup (now (depths .entry)) (from .0) entries (λ f. r ≡ shapeNumber groupLimit (walkRound f)) ⌝ }
-    ensures small { λ r. ⌜ r ≤ shapeCount ⌝ }
-    ensures none { λ r. ⌜ (OfGroup (now (depths .entry)) (from .0) entries (λ f. ⊥) → r ≡ shapeCount) ⌝ }
+// How many shapes have at most so many entries.
+fn smaller(entries: usize) -> u32
+    requires { ⌜ entries < groupLimit ⌝ }
+    ensures { λ r. ⌜ r ≡ length (shapes entries) ⌝ }
 {
-    if entries == 0
-        || LOCAL_NUMBERS < entries
-        || depths.len() < entries
-        || depths.len() - entries < from.0 as usize
-    {
-        return SHAPE_COUNT;
+    match entries {
+        0 => 0,
+        1 => 1,
+        2 => 2,
+        3 => 4,
+        _ => 9,
     }
-    let end = from.0 as usize + entries;
-    ranked(&depths[from.0 as usize..end])
+}
+
+// How many walks go on from each depth, 0 to 4, with so many downs to come.
+fn ways(downs: usize) -> [u32; LOCAL_NUMBERS]
+    requires { ⌜ downs < groupLimit ⌝ }
+    ensures { λ r. ⌜ r ≡ below groupLimit (λ c. length (walks downs c)) ⌝ }
+{
+    match downs {
+        0 => [1, 1, 1, 1, 1],
+        1 => [1, 2, 3, 4, 5],
+        2 => [2, 5, 9, 14, 20],
+        3 => [5, 14, 28, 48, 75],
+        _ => [14, 42, 90, 165, 275],
+    }
 }

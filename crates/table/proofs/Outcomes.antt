@@ -12,9 +12,9 @@ use lib.Dec.{eqb, ltb}
 use borrow.Author.Tests.{lt-ltb, le-ltb}
 use Rattle.base.specs.Lists.{some?, has}
 use Rattle.base.specs.Numbers.{Outcome, accepted, count, shortTable, shortSpace, stray, loop}
-use Rattle.base.specs.Limits.{mostEntries, tableWords, spaceWords}
+use Rattle.base.specs.Limits.{mostEntries, tableWords, spaceWords, topMark}
 use Rattle.base.proofs.Lists.{clash}
-use Rattle.tree.specs.Parents.{topMark, children}
+use Rattle.tree.specs.Parents.{children}
 use Rattle.tree.specs.Faults.{Tree, lowest, isStray, meetsTop, topsFault, listFault}
 use Rattle.table.specs.Preparing.{refuse, countFault, tableFault, spaceFault, callFault, lendFault, refusal, preparing, judging}
 use Rattle.table.proofs.Acceptance.{accepted-iff, accepts}

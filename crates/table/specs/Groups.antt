@@ -7,8 +7,8 @@ use Prim.Native.Nat.{ℕ, _+_, _*_, _^_}
 use lib.ListN.{getD}
 use lib.Dec.{leb}
 use Rattle.base.specs.Lists.{below, keep, index, place, has, every}
-use Rattle.base.specs.Limits.{microMark, localSpan}
-use Rattle.tree.specs.Parents.{topMark, parent, up, depth, children}
+use Rattle.base.specs.Limits.{microMark, localSpan, topMark}
+use Rattle.tree.specs.Parents.{parent, up, depth, children}
 use Rattle.tree.specs.Forest.{under, size, family, order, position}
 use Rattle.shapes.specs.Walks.{walkRound, shapeNumber}
 

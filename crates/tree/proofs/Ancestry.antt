@@ -14,7 +14,8 @@ use Rattle.base.specs.Lists.{first, some?, has}
 use Rattle.base.proofs.Lists.{clash}
 use Rattle.base.proofs.Counts.{times}
 use Rattle.base.proofs.Filters.{first-only, first-nothing}
-use Rattle.tree.specs.Parents.{topMark, word, parent, up, climbWithin, climb, depth, children}
+use Rattle.base.specs.Limits.{topMark}
+use Rattle.tree.specs.Parents.{word, parent, up, climbWithin, climb, depth, children}
 use Rattle.tree.specs.Level.{Ancestor, LevelAncestor, levelAncestor}
 use Rattle.tree.specs.Faults.{Tree}
 use Rattle.tree.proofs.Climbs.{entry-in, entry-some, parent-some, parent-in, up-step, up-first, up-add}

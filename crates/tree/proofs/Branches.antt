@@ -12,7 +12,8 @@ use lib.ListN.{length}
 use borrow.Author.Tests.{le-leb, lt-leb}
 use Rattle.base.specs.Lists.{some?, has}
 use Rattle.base.specs.Numbers.{accepted, notAbove}
-use Rattle.tree.specs.Parents.{topMark, parent, up, depth, climb}
+use Rattle.base.specs.Limits.{topMark}
+use Rattle.tree.specs.Parents.{parent, up, depth, climb}
 use Rattle.tree.specs.Level.{Ancestor, LevelAncestor}
 use Rattle.tree.specs.Faults.{Tree}
 use Rattle.tree.specs.Questions.{ancestryOf, branchOf}

@@ -11,7 +11,8 @@ use lib.Dec.{eqb, ltb}
 use borrow.Author.Tests.{ltb-true, eq-eqb, ne-eqb, lt-ltb, le-ltb}
 use Rattle.base.specs.Lists.{some?}
 use Rattle.base.proofs.Lists.{clash, at-in, at-past}
-use Rattle.tree.specs.Parents.{topMark, word, entry, parent, up, climbWithin}
+use Rattle.base.specs.Limits.{topMark}
+use Rattle.tree.specs.Parents.{word, entry, parent, up, climbWithin}
 
 module _ (ps : List ℕ) where
   pub entry-in : (v : ℕ) → v < length ps → entry ps v ≡ some v

@@ -12,7 +12,8 @@ use lib.Dec.{leb}
 use borrow.Author.Tests.{le-leb, lt-leb}
 use Rattle.base.specs.Lists.{some?}
 use Rattle.base.proofs.Lists.{clash}
-use Rattle.tree.specs.Parents.{topMark, word, parent, up, climbWithin, climb, depth}
+use Rattle.base.specs.Limits.{topMark}
+use Rattle.tree.specs.Parents.{word, parent, up, climbWithin, climb, depth}
 use Rattle.tree.specs.Level.{Ancestor, LevelAncestor, levelAncestor}
 use Rattle.tree.specs.Faults.{Tree, meetsTop}
 use Rattle.tree.proofs.Climbs.{meets, meets-up, parent-some, entry-in, entry-some, up-step, up-first, up-in}

@@ -13,7 +13,8 @@ use Rattle.base.specs.Lists.{some?}
 use Rattle.base.proofs.Lists.{clash}
 use Rattle.base.proofs.Counts.{one, times, places-at, places-past, all-ones, ones-all}
 use Rattle.base.proofs.Places.{one-true, one-most, times-other, stands}
-use Rattle.tree.specs.Parents.{topMark, word, parent, climbWithin, children}
+use Rattle.base.specs.Limits.{topMark}
+use Rattle.tree.specs.Parents.{word, parent, climbWithin, children}
 use Rattle.tree.specs.Forest.{Forest, empty, node, plant, grow, preorder, forestSize, forestHeight, under, whole, size, order}
 use Rattle.tree.specs.Faults.{meetsTop}
 use Rattle.tree.proofs.Climbs.{meets, meets-top, meets-up, meets-past, meets-word, parent-some}

@@ -10,7 +10,8 @@ use lib.ListN.{length, getD, take, drop, length-append, length-take, length-drop
 use lib.Seq.{getD-append-add, getD-at, drop-append-seam, drop-drop, take-at, take-add, take-take}
 use Rattle.base.proofs.Counts.{times, times-append}
 use Rattle.base.proofs.Places.{one-most, times-same, times-other, stands}
-use Rattle.tree.specs.Parents.{topMark, word, parent, up, depth, children}
+use Rattle.base.specs.Limits.{topMark}
+use Rattle.tree.specs.Parents.{word, parent, up, depth, children}
 use Rattle.tree.specs.Forest.{Forest, plant, grow, preorder, forestSize, forestHeight, under, size, height, family, order, position}
 use Rattle.tree.specs.Level.{Ancestor}
 use Rattle.tree.specs.Faults.{Tree, meetsTop}

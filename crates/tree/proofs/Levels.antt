@@ -8,7 +8,8 @@ use native.Mathlib.Omega.{arith}
 use lib.ListN.{length, length-append}
 use Rattle.base.proofs.Counts.{times}
 use Rattle.base.proofs.Places.{times-same}
-use Rattle.tree.specs.Parents.{topMark, depth, children}
+use Rattle.base.specs.Limits.{topMark}
+use Rattle.tree.specs.Parents.{depth, children}
 use Rattle.tree.specs.Forest.{Forest, empty, node, plant, grow, preorder, levels, forestSize, under, whole, order}
 use Rattle.tree.specs.Faults.{meetsTop}
 use Rattle.tree.proofs.Climbs.{parent-in, parent-none}

@@ -10,7 +10,8 @@ use native.Mathlib.Decide.{decLe}
 use lib.ListN.{length}
 use borrow.Author.Tests.{le-leb, lt-leb}
 use Rattle.base.specs.Numbers.{Outcome, accepted, unknown, tooDeep}
-use Rattle.tree.specs.Parents.{topMark, up, depth}
+use Rattle.base.specs.Limits.{topMark}
+use Rattle.tree.specs.Parents.{up, depth}
 use Rattle.tree.specs.Level.{LevelAncestor, levelAncestor}
 use Rattle.tree.specs.Faults.{Tree}
 use Rattle.tree.specs.Questions.{known, classOf, climbOf}

@@ -13,7 +13,8 @@ use borrow.Author.Tests.{eqb-true, ltb-true, eq-eqb, ne-eqb, lt-ltb, not-false}
 use Rattle.base.specs.Numbers.{Outcome, stray, loop}
 use Rattle.base.proofs.Lists.{clash, at-in, at-some, first-none, none-first, places-one}
 use Rattle.base.proofs.Counts.{one, times, places-at, places-past}
-use Rattle.tree.specs.Parents.{topMark, word, up, children}
+use Rattle.base.specs.Limits.{topMark}
+use Rattle.tree.specs.Parents.{word, up, children}
 use Rattle.tree.specs.Faults.{Tree, lowest, isStray, strayFault, topsFault, meetsTop, loopFault, listFault}
 use Rattle.tree.proofs.Climbs.{meets, meets-found, found-meets, up-in}
 use Rattle.tree.proofs.Preorders.{meets-within}

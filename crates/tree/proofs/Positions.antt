@@ -10,7 +10,7 @@ use Rattle.base.specs.Lists.{keep, place}
 use Rattle.base.proofs.Counts.{one, times}
 use Rattle.base.proofs.Places.{place-stands, place-is}
 use Rattle.base.proofs.Filters.{keep-split}
-use Rattle.tree.specs.Parents.{topMark}
+use Rattle.base.specs.Limits.{topMark}
 use Rattle.tree.specs.Forest.{order, position}
 use Rattle.tree.specs.Faults.{Tree}
 use Rattle.tree.proofs.OneTree.{tree-meets}

@@ -13,7 +13,8 @@ use borrow.Author.Tests.{eq-eqb, ne-eqb}
 use Rattle.base.specs.Lists.{some?}
 use Rattle.base.proofs.Lists.{clash}
 use Rattle.base.proofs.Counts.{one, times, times-append, places-at, places-past, sum, sum-le, length-sum, one-same}
-use Rattle.tree.specs.Parents.{topMark, word, children, climbWithin}
+use Rattle.base.specs.Limits.{topMark}
+use Rattle.tree.specs.Parents.{word, children, climbWithin}
 use Rattle.tree.specs.Forest.{Forest, node, plant, grow, preorder}
 use Rattle.tree.proofs.Climbs.{meets, meets-top, meets-word, meets-past}
 

@@ -7,7 +7,8 @@ use native.Mathlib.Omega.{arith}
 use lib.ListN.{length}
 use Rattle.base.proofs.Counts.{times}
 use Rattle.base.proofs.Places.{parted}
-use Rattle.tree.specs.Parents.{topMark, parent, children}
+use Rattle.base.specs.Limits.{topMark}
+use Rattle.tree.specs.Parents.{parent, children}
 use Rattle.tree.specs.Forest.{Forest, empty, node, plant, forestSize, forestHeight, under, position}
 use Rattle.tree.specs.Faults.{Tree}
 use Rattle.tree.proofs.Climbs.{parent-some}

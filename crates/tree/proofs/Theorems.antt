@@ -6,7 +6,8 @@ use mathlib.Core.Bool.{true, false}
 use mathlib.Core.Option.{none, some, Option·some-injective}
 use Prim.Native.Nat.{ℕ, suc, _≤_, _<_}
 use lib.ListN.{length}
-use Rattle.tree.specs.Parents.{topMark, word, parent, up, depth}
+use Rattle.base.specs.Limits.{topMark}
+use Rattle.tree.specs.Parents.{word, parent, up, depth}
 use Rattle.tree.specs.Level.{LevelAncestor, levelAncestor}
 use Rattle.tree.specs.Faults.{Tree, meetsTop, listFault}
 use Rattle.tree.proofs.OneTree.{passed-tree, tree-passes, lost-never, never-lost}

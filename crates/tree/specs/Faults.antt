@@ -8,7 +8,8 @@ use lib.ListN.{length, getElem?}
 use lib.Dec.{eqb, ltb}
 use Rattle.base.specs.Lists.{below, first, some?}
 use Rattle.base.specs.Numbers.{Outcome, stray, tops, loop}
-use Rattle.tree.specs.Parents.{topMark, word, up, climb, children}
+use Rattle.base.specs.Limits.{topMark}
+use Rattle.tree.specs.Parents.{word, up, climb, children}
 
 -- a list forms one tree: some entry holds the top mark, every other word is an entry, and from every entry some climbs lead to that entry
 pub record Tree (ps : List ℕ) : Type 0 where

@@ -6,7 +6,8 @@ use Prim.Native.Nat.{ℕ, zero, suc, _+_, max}
 use lib.ListN.{length}
 use lib.Dec.{eqb, leb}
 use Rattle.base.specs.Lists.{place}
-use Rattle.tree.specs.Parents.{topMark, parent, children}
+use Rattle.base.specs.Limits.{topMark}
+use Rattle.tree.specs.Parents.{parent, children}
 
 -- an ordered forest: an entry, the forest below it, and its later siblings
 pub data Forest : Type 0 where

@@ -7,10 +7,6 @@ use lib.ListN.{length, getD, getElem?}
 use lib.Dec.{eqb, ltb}
 use Rattle.base.specs.Lists.{places}
 
--- the top mark: the word of the top entry, which is the root in 003
-abbrev pub topMark : ℕ
-topMark = 4294967295
-
 -- entry v's word
 abbrev pub word : List ℕ → ℕ → ℕ
 word ps v = getD ps v 0

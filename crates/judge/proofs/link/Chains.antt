@@ -11,7 +11,8 @@ use lib.Seq.{drop-cons, getD-set-same, getD-set-other}
 use lib.Dec.{eqb, ltb}
 use borrow.Author.Tests.{eq-eqb, ne-eqb, lt-ltb, le-ltb}
 use Rattle.base.specs.Lists.{places}
-use Rattle.tree.specs.Parents.{topMark, word}
+use Rattle.base.specs.Limits.{topMark}
+use Rattle.tree.specs.Parents.{word}
 use Rattle.judge.specs.Regions.{from, after, firstOf, Linked, heads, nexts}
 use Rattle.base.proofs.Views.{view-length, view-at, view-set, view-before, view-past}
 

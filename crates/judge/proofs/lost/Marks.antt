@@ -14,7 +14,7 @@ use Rattle.base.specs.Lists.{below, first, place, view}
 use Rattle.base.proofs.Lists.{clash, first-none}
 use Rattle.base.proofs.Counts.{one}
 use Rattle.base.proofs.Places.{place-stands}
-use Rattle.tree.specs.Parents.{topMark}
+use Rattle.base.specs.Limits.{topMark}
 use Rattle.tree.specs.Forest.{order}
 use Rattle.tree.specs.Faults.{lowest, meetsTop}
 use Rattle.tree.proofs.Forests.{order-once, order-short, order-meets, meets-full}

@@ -5,7 +5,8 @@ use Prim.Native.Nat.{ℕ, zero, suc, _+_, _*_, _-_, _≤_, _<_}
 use native.Mathlib.Omega.{arith}
 use lib.ListN.{length, getD, set, length-append, length-set}
 use Rattle.base.specs.Lists.{view}
-use Rattle.tree.specs.Parents.{topMark, word, children}
+use Rattle.base.specs.Limits.{topMark}
+use Rattle.tree.specs.Parents.{word, children}
 use Rattle.tree.specs.Forest.{Forest, empty, node, plant, grow, preorder, levels, whole, order}
 use Rattle.tree.proofs.Preorders.{whole-more}
 use Rattle.tree.proofs.Forests.{order-short}

@@ -8,14 +8,14 @@ use native.Mathlib.Omega.{arith}
 use borrow.Rule.Slice.PartMut.{midOf, putMid}
 use lib.ListN.{length, set, take, drop, replicate}
 use lib.Seq.{take-all, take-at}
-use Rattle.base.specs.Limits.{groupLimit}
+use Rattle.base.specs.Limits.{groupLimit, topMark}
 use Rattle.base.specs.Lists.{keep, padded}
 use Rattle.base.proofs.Rows.{rows-length, rows-more}
 use Rattle.base.proofs.Views.{Laid, laid-none, laid-length, laid-more}
 use Rattle.base.proofs.Puts.{wiped}
 use Rattle.base.proofs.Lists.{drop-map}
 use Rattle.base.proofs.Filters.{keep-few, keep-next, keep-same}
-use Rattle.tree.specs.Parents.{topMark, parent, depth}
+use Rattle.tree.specs.Parents.{parent, depth}
 use Rattle.tree.specs.Forest.{levels, under, size, family, order, position}
 use Rattle.tree.proofs.OneTree.{tree-meets}
 use Rattle.tree.proofs.Levels.{under-levels}

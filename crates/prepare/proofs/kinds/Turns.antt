@@ -11,12 +11,12 @@ use native.Mathlib.Decide.{ℕ-discrete, decLt}
 use borrow.Author.Count.{below-more}
 use lib.ListN.{length, set, take}
 use lib.Seq.{take-all}
-use Rattle.base.specs.Limits.{mostEntries, groupLimit, microMark}
+use Rattle.base.specs.Limits.{mostEntries, groupLimit, microMark, topMark}
 use Rattle.base.specs.Lists.{below, keep, every}
 use Rattle.base.proofs.Lists.{clash}
 use Rattle.base.proofs.Counts.{one, times}
 use Rattle.base.proofs.Filters.{every-true, every-false, keep-few, keep-count}
-use Rattle.tree.specs.Parents.{topMark, parent, children}
+use Rattle.tree.specs.Parents.{parent, children}
 use Rattle.tree.specs.Forest.{size, order, position}
 use Rattle.tree.specs.Level.{Ancestor}
 use Rattle.tree.proofs.Climbs.{parent-in, parent-some}

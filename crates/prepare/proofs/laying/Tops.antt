@@ -6,8 +6,7 @@ use mathlib.Core.Option.{Option, none, some, Option·elim, Option·some-injectiv
 use Prim.Native.Nat.{ℕ, _+_, _*_, _≤_, _<_}
 use native.Mathlib.Omega.{arith}
 use lib.ListN.{length, getD}
-use Rattle.base.specs.Limits.{mostEntries}
-use Rattle.tree.specs.Parents.{topMark}
+use Rattle.base.specs.Limits.{mostEntries, topMark}
 use Rattle.tree.specs.Forest.{position, longChild, pathTop}
 use Rattle.tree.proofs.Climbs.{parent-some}
 use Rattle.table.specs.Ladders.{ladPos}

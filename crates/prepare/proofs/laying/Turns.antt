@@ -9,10 +9,9 @@ use borrow.Author.Count.{below-more}
 use borrow.Rule.Slice.PartMut.{midOf, putMid}
 use lib.ListN.{length, getD, set, take, replicate, length-append, length-take}
 use lib.Seq.{getD-set-same, getD-set-other}
-use Rattle.base.specs.Limits.{mostEntries}
+use Rattle.base.specs.Limits.{mostEntries, topMark}
 use Rattle.base.proofs.Filters.{keep-most}
 use Rattle.base.proofs.Puts.{wiped}
-use Rattle.tree.specs.Parents.{topMark}
 use Rattle.tree.specs.Forest.{height, order, pathTop}
 use Rattle.table.specs.Ladders.{pathTops, ladPos}
 use Rattle.table.specs.Table.{ladderCells}

@@ -9,10 +9,10 @@ use native.Mathlib.Decide.{ℕ-discrete, decLe}
 use lib.ListN.{length}
 use lib.Dec.{leb}
 use borrow.Author.Tests.{le-leb, lt-leb}
-use Rattle.base.specs.Limits.{mostEntries}
+use Rattle.base.specs.Limits.{mostEntries, topMark}
 use Rattle.base.specs.Lists.{keep, place}
 use Rattle.base.proofs.Filters.{keep-append, keep-none, keep-alike, keep-all}
-use Rattle.tree.specs.Parents.{topMark, word, parent, children}
+use Rattle.tree.specs.Parents.{word, parent, children}
 use Rattle.tree.specs.Forest.{Forest, empty, node, plant, forestSize, forestHeight, tallest, under, height, position}
 use Rattle.tree.proofs.Climbs.{parent-some, parent-in}
 use Rattle.tree.proofs.OneTree.{tree-meets}

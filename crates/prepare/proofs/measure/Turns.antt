@@ -8,11 +8,10 @@ use native.Mathlib.Omega.{arith}
 use native.Mathlib.Decide.{decLe}
 use lib.ListN.{length, getD, set, replicate, length-replicate, getD-replicate}
 use lib.Seq.{getD-set-same, getD-set-other}
-use Rattle.base.specs.Limits.{mostEntries}
+use Rattle.base.specs.Limits.{mostEntries, topMark}
 use Rattle.base.specs.Lists.{view, put}
 use Rattle.base.proofs.Puts.{put-view, stays}
 use Rattle.base.proofs.Views.{view-at}
-use Rattle.tree.specs.Parents.{topMark}
 use Rattle.tree.specs.Forest.{forestSize, forestHeight, tallest, size, height}
 use Rattle.prepare.specs.Arrays.{OneTree, abovePosition, longPosition}
 use Rattle.prepare.specs.Stages.{Linked, Measured}

@@ -7,7 +7,8 @@ use native.Mathlib.Omega.{arith}
 use borrow.Author.Needs.{needs}
 use lib.ListN.{length, getD}
 use Rattle.base.specs.Numbers.{accepted, stray, tops, loop}
-use Rattle.tree.specs.Parents.{topMark, children}
+use Rattle.base.specs.Limits.{topMark}
+use Rattle.tree.specs.Parents.{children}
 use Rattle.tree.specs.Faults.{lowest, isStray}
 use Rattle.tree.proofs.Forests.{order-short}
 use Rattle.tree.proofs.Levels.{order-levels}

@@ -6,7 +6,8 @@ use native.Mathlib.Omega.{arith}
 use borrow.Author.Needs.{needs}
 use borrow.Rule.Slice.PartMut.{same-len-mid}
 use lib.ListN.{length, length-set}
-use Rattle.tree.specs.Parents.{topMark, word}
+use Rattle.base.specs.Limits.{topMark}
+use Rattle.tree.specs.Parents.{word}
 use Rattle.judge.specs.Regions.{Linked, heads, nexts}
 use Rattle.judge.proofs.link.Chains.{from-end, link-below-in, link-top-in}
 use Rattle.base.proofs.Fills.{filled-part}

@@ -5,7 +5,7 @@ use Prim.Native.Nat.{ℕ}
 use native.Mathlib.Omega.{arith}
 use borrow.Author.Needs.{needs}
 use lib.ListN.{length, getD}
-use Rattle.tree.specs.Parents.{topMark}
+use Rattle.base.specs.Limits.{topMark}
 use Rattle.prepare.proofs.Preorder.{Over, order-many, first-none, over-at, array-length, array-words}
 use Rattle.prepare.proofs.grouping.parent_word.Statement.{statement}
 use Rattle.prepare.proofs.grouping.parent_word.Tie as tie

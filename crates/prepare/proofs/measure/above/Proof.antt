@@ -4,7 +4,7 @@ use Prim.Native.Nat.{_-_, _≤_}
 use native.Mathlib.Omega.{arith}
 use borrow.Author.Needs.{needs}
 use lib.ListN.{length, length-set}
-use Rattle.tree.specs.Parents.{topMark}
+use Rattle.base.specs.Limits.{topMark}
 use Rattle.prepare.specs.Arrays.{entryAt, abovePosition}
 use Rattle.prepare.proofs.Preorder.{entries-some, above-first, array-length, words-array}
 use Rattle.prepare.proofs.spread.Writes.{Ran, ran-more}

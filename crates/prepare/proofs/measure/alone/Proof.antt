@@ -7,7 +7,7 @@ use borrow.Rule.Slice.PartMut.{putMid, same-len-mid}
 use lib.ListN.{length, replicate}
 use Rattle.base.specs.Lists.{put}
 use Rattle.base.proofs.Puts.{came-filled}
-use Rattle.tree.specs.Parents.{topMark}
+use Rattle.base.specs.Limits.{topMark}
 use Rattle.prepare.proofs.measure.alone.Statement.{statement}
 use Rattle.prepare.proofs.measure.alone.Tie as tie
 
