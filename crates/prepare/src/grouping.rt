@@ -5,7 +5,7 @@ ghost use Prim.Native.Nat.{_*_, _<_};
 ghost use lib.ListN.{length};
 ghost use Rattle.tree.specs.Parents.{topMark, parent};
 ghost use Rattle.table.specs.Table.{groupCells};
-ghost use Rattle.prepare.specs.Arrays.{OneTree, entryAt, entriesOf, depthsOf, sizesOf, abovesOf};
+ghost use Rattle.prepare.specs.Arrays.{OneTree, entryAt, orderOf, depthsOf, sizesOf, abovesOf};
 use base::Position;
 use base::limits::GROUP_LIMIT;
 use base::limits::TOP_MARK;
@@ -13,7 +13,7 @@ use base::set_all;
 
 // The entry above the one at a position, or the top mark.
 fn parent_word(parents: &[u32], order: &[u32], above: &[u32], at: Position) -> u32
-    requires { ⌜ OneTree (now parents) × (now order ≡ entriesOf (now parents)) × (now above ≡ abovesOf (now parents)) × (at .0 < length (now parents)) ⌝ }
+    requires { ⌜ OneTree (now parents) × (now order ≡ orderOf (now parents)) × (now above ≡ abovesOf (now parents)) × (at .0 < length (now parents)) ⌝ }
     ensures { λ r. ⌜ r ≡ Option·getD (parent (now (parents .entry)) (entryAt (now (parents .entry)) (at .0))) topMark ⌝ }
 {
     if at.0 == 0 {
@@ -32,7 +32,7 @@ pub(crate) fn groups(
     above: &[u32],
     cells: &mut [u32],
 )
-    requires { ⌜ OneTree (now parents) × (now order ≡ entriesOf (now parents)) × (now depth ≡ depthsOf (now parents)) × (now size ≡ sizesOf (now parents)) × (now above ≡ abovesOf (now parents)) × (length (now cells) ≡ 3 * length (now parents)) ⌝ }
+    requires { ⌜ OneTree (now parents) × (now order ≡ orderOf (now parents)) × (now depth ≡ depthsOf (now parents)) × (now size ≡ sizesOf (now parents)) × (now above ≡ abovesOf (now parents)) × (length (now cells) ≡ 3 * length (now parents)) ⌝ }
     ensures { λ _. ⌜ now (cells .exit) ≡ groupCells (now (parents .entry)) ⌝ }
 {
     let mut cell: usize = 0;
