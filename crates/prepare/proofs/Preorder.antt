@@ -19,7 +19,7 @@ use Rattle.tree.proofs.Intervals.{parent-before, next-parent}
 use Rattle.prepare.specs.Arrays.{OneTree, entryAt, byPosition, abovePosition}
 
 -- position i holds entry v
-pub record Holds (ps : List ℕ) (i v : ℕ) : Type 0 where
+pub record Located (ps : List ℕ) (i v : ℕ) : Type 0 where
   pub low : i < length ps
   pub inside : v < length ps
   pub entry : entryAt ps i ≡ v
@@ -28,7 +28,7 @@ pub record Holds (ps : List ℕ) (i v : ℕ) : Type 0 where
 -- position j holds p, which is above the entry at position i
 pub record Over (ps : List ℕ) (i j p : ℕ) : Type 0 where
   pub parent-is : parent ps (entryAt ps i) ≡ some p
-  pub there : Holds ps j p
+  pub there : Located ps j p
   pub earlier : j < i
 
 -- what is read at each position is the word of the entry there
@@ -45,23 +45,23 @@ module _ {ps : List ℕ} (t : OneTree ps) where
   pub entries-some : 0 < length ps
   entries-some = let root = root-in ps small (t .tree) in omega (arith, root .0)
 
-  pub holds-at : (i : ℕ) → i < length ps → Holds ps i (entryAt ps i)
-  holds-at i h = record { low = h; inside = order-in ps small (t .tree) i h; entry = refl; place = position-of ps small (t .tree) i h }
+  pub located-at : (i : ℕ) → i < length ps → Located ps i (entryAt ps i)
+  located-at i h = record { low = h; inside = order-in ps small (t .tree) i h; entry = refl; place = position-of ps small (t .tree) i h }
 
-  pub holds-of : (v : ℕ) → v < length ps → Holds ps (position ps v) v
-  holds-of v h = record { low = position-in ps small (t .tree) v h; inside = h; entry = at-position ps small (t .tree) v h; place = refl }
+  pub located-of : (v : ℕ) → v < length ps → Located ps (position ps v) v
+  located-of v h = record { low = position-in ps small (t .tree) v h; inside = h; entry = at-position ps small (t .tree) v h; place = refl }
 
   -- the first position has nothing above
-  pub first-none : parent ps (entryAt ps 0) ≡ none
-  first-none = go (parent ps (entryAt ps 0)) refl
+  pub no-parent : parent ps (entryAt ps 0) ≡ none
+  no-parent = go (parent ps (entryAt ps 0)) refl
     where
       go : (o : Option ℕ) → parent ps (entryAt ps 0) ≡ o → o ≡ none
       go none e = refl
-      go (some p) e = absurd (omega (arith, parent-before ps small (t .tree) (entryAt ps 0) p e, holds-at 0 entries-some .place))
+      go (some p) e = absurd (omega (arith, parent-before ps small (t .tree) (entryAt ps 0) p e, located-at 0 entries-some .place))
 
   pub above-first : abovePosition ps (entryAt ps 0) ≡ topMark
   unfolding abovePosition Option·elim
-  above-first = rw first-none
+  above-first = rw no-parent
 
   pub above-parent : (v p : ℕ) → parent ps v ≡ some p → abovePosition ps v ≡ position ps p
   unfolding abovePosition Option·elim
@@ -71,9 +71,9 @@ module _ {ps : List ℕ} (t : OneTree ps) where
   module _ (i : ℕ) {j : ℕ} (h : i < length ps) (w : j ≡ abovePosition ps (entryAt ps i)) where
     pub over-of : (p : ℕ) → parent ps (entryAt ps i) ≡ some p → Over ps i j p
     over-of p e =
-        let there = holds-of p (parent-some ps (entryAt ps i) p e .1) in
+        let there = located-of p (parent-some ps (entryAt ps i) p e .1) in
         rw (w ∙ above-parent (entryAt ps i) p e)
-        (record { parent-is = e; there = there; earlier = omega (arith, parent-before ps small (t .tree) (entryAt ps i) p e, holds-at i h .place) })
+        (record { parent-is = e; there = there; earlier = omega (arith, parent-before ps small (t .tree) (entryAt ps i) p e, located-at i h .place) })
 
     pub over-at : 0 < i → (p : ℕ) × Over ps i j p
     over-at b =

@@ -14,7 +14,7 @@ use Rattle.tree.proofs.Intervals.{ancestor-in, ancestor-self, interval}
 use Rattle.table.specs.Groups.{micro, groupRoot}
 use Rattle.climbs.proofs.Groups.{root-above, one-root}
 use Rattle.prepare.specs.Arrays.{OneTree, entryAt}
-use Rattle.prepare.proofs.Preorder.{Holds, small, holds-at, holds-of}
+use Rattle.prepare.proofs.Preorder.{Located, small, located-at, located-of}
 
 -- each group whose root stands before position i ends at `end` or before
 abbrev pub Ended : ℕ → List ℕ → ℕ → ℕ → Type 0
@@ -29,9 +29,9 @@ module _ {ps : List ℕ} (t : OneTree ps) (L : ℕ) where
   -- past the groups before it a micro entry is a root
   pub root-next : (i end : ℕ) → i < length ps → Ended L ps i end → end ≤ i → micro L ps (entryAt ps i) ≡ true → groupRoot L ps (entryAt ps i) ≡ true
   root-next i end h s b m =
-      let here = holds-at t i h in
+      let here = located-at t i h in
       let (r, e, a) = root-above ps (small t) (t .tree) L (entryAt ps i) (here .inside) m in
-      let there = holds-of t r (ancestor-in ps (small t) (t .tree) r (entryAt ps i) a .0) in
+      let there = located-of t r (ancestor-in ps (small t) (t .tree) r (entryAt ps i) a .0) in
       let (low, high) = interval ps (small t) (t .tree) r (entryAt ps i) (there .inside) (here .inside) .0 a in
       go r e (there .entry) (omega arith) (omega arith) (decLt (position ps r) i)
     where
@@ -41,11 +41,11 @@ module _ {ps : List ℕ} (t : OneTree ps) (L : ℕ) where
 
   -- what stands in a family is below its first entry, and below a root there is no other
   module _ (k i : ℕ) (h : i < length ps) (low : k ≤ i) (high : i < k + size ps (entryAt ps k)) where
-    first : Holds ps k (entryAt ps k)
-    first = holds-at t k (omega arith)
+    first : Located ps k (entryAt ps k)
+    first = located-at t k (omega arith)
 
-    here : Holds ps i (entryAt ps i)
-    here = holds-at t i h
+    here : Located ps i (entryAt ps i)
+    here = located-at t i h
 
     pub in-family : Ancestor ps (entryAt ps k) (entryAt ps i)
     in-family = interval ps (small t) (t .tree) (entryAt ps k) (entryAt ps i) (first .inside) (here .inside) .1 (omega (arith, first .place, here .place), omega (arith, first .place, here .place))

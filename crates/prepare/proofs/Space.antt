@@ -11,7 +11,7 @@ use Rattle.base.proofs.Puts.{lent-back, put-length, put-view, lent, Apart, stay
 use Rattle.base.proofs.Views.{view-at}
 use Rattle.tree.specs.Parents.{depth}
 use Rattle.prepare.specs.Arrays.{OneTree, entryAt, depthsOf, abovesOf}
-use Rattle.prepare.specs.Stages.{Walked, Linked, Pathed}
+use Rattle.prepare.specs.Stages.{Walked, Parented, Pathed}
 use Rattle.prepare.proofs.Preorder.{array-length}
 
 module _ {ps space : List ℕ} (w : Walked ps space) where
@@ -25,7 +25,7 @@ module _ {ps space : List ℕ} (w : Walked ps space) where
 -- words put behind regions 0 and 1, apart from region 3, and in region 2
 module _ {ps space : List ℕ} (a : ℕ) (x : List ℕ) (low : 2 * length ps ≤ a) (high : a + length x ≤ 6 * length ps) where
   module _ (w : Walked ps space) where
-    pub fits : a + length x ≤ length space
+    fits : a + length x ≤ length space
     fits = omega (arith, w .room)
 
     pub walked-put : Walked ps (put space a x)
@@ -37,33 +37,33 @@ module _ {ps space : List ℕ} (a : ℕ) (x : List ℕ) (low : 2 * length ps ≤
       depths = stays space a x fits (length ps) (length ps) (inl (omega arith)) ∙ w .depths;
     }
 
-  pub linked-put : Apart a (length x) (3 * length ps) (length ps) → Linked ps space → Linked ps (put space a x)
-  linked-put o d = record { walked = walked-put (d .walked); aboves = stays space a x (fits (d .walked)) (3 * length ps) (length ps) o ∙ d .aboves }
+  pub parented-put : Apart a (length x) (3 * length ps) (length ps) → Parented ps space → Parented ps (put space a x)
+  parented-put o d = record { walked = walked-put (d .walked); aboves = stays space a x (fits (d .walked)) (3 * length ps) (length ps) o ∙ d .aboves }
 
   pub pathed-put : a + length x ≤ 3 * length ps → Pathed ps space → Pathed ps (put space a x)
   pathed-put b p =
-      let room = fits (p .linked .walked) in
+      let room = fits (p .parented .walked) in
       record {
-        linked = linked-put (inr b) (p .linked);
+        parented = parented-put (inr b) (p .parented);
         heights = stays space a x room (4 * length ps) (length ps) (inr (omega arith)) ∙ p .heights;
         longs = stays space a x room (5 * length ps) (length ps) (inr (omega arith)) ∙ p .longs;
       }
 
 -- one word
 module _ {ps space : List ℕ} (k x : ℕ) (low : 2 * length ps ≤ k) where
-  pub linked-set : k < 6 * length ps → (k < 3 * length ps) ⊎ (4 * length ps ≤ k) → Linked ps space → Linked ps (set space k x)
-  linked-set h o d = rw (set-put space k x (omega (arith, d .walked .room))) (linked-put k (x ∷ []) low (omega arith) (⊎-elim (λ b. inr (omega arith)) (λ b. inl (omega arith)) o) d)
+  pub parented-set : k < 6 * length ps → (k < 3 * length ps) ⊎ (4 * length ps ≤ k) → Parented ps space → Parented ps (set space k x)
+  parented-set h o d = rw (set-put space k x (omega (arith, d .walked .room))) (parented-put k (x ∷ []) low (omega arith) (⊎-elim (λ b. inr (omega arith)) (λ b. inl (omega arith)) o) d)
 
   pub pathed-set : k < 3 * length ps → Pathed ps space → Pathed ps (set space k x)
-  pathed-set h p = rw (set-put space k x (omega (arith, p .linked .walked .room))) (pathed-put k (x ∷ []) low (omega arith) (omega arith) p)
+  pathed-set h p = rw (set-put space k x (omega (arith, p .parented .walked .room))) (pathed-put k (x ∷ []) low (omega arith) (omega arith) p)
 
 -- region 3, lent and filled, and the depths, carried to the cells of DEPTH
 module _ {ps space : List ℕ} (w : Walked ps space) where
   abbrev n : ℕ
   n = length ps
 
-  pub linked-of : (x : List ℕ) → x ≡ abovesOf ps → Linked ps (putMid (3 * n) (4 * n - 3 * n) space x)
-  linked-of x e =
+  pub parented-of : (x : List ℕ) → x ≡ abovesOf ps → Parented ps (putMid (3 * n) (4 * n - 3 * n) space x)
+  parented-of x e =
       let wide = array-length (tree-of w) _ x e in
       rw (lent-back (3 * n) (4 * n) space x x refl (omega arith))
       (record { walked = walked-put (3 * n) x (omega arith) (omega arith) w; aboves = put-view space (3 * n) x (omega (arith, w .room)) n wide ∙ e })

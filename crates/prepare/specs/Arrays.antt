@@ -32,8 +32,8 @@ abbrev pub byPosition : List ℕ → (ℕ → ℕ) → List ℕ
 byPosition ps f = map f (order ps)
 
 -- ORDER, DEPTH, SIZE and ABOVE by position
-abbrev pub entriesOf : List ℕ → List ℕ
-entriesOf ps = order ps
+abbrev pub orderOf : List ℕ → List ℕ
+orderOf ps = order ps
 
 abbrev pub depthsOf : List ℕ → List ℕ
 depthsOf ps = byPosition ps (depth ps)

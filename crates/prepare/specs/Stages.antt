@@ -22,13 +22,13 @@ pub record Walked (ps space : List ℕ) : Type 0 where
   pub depths : view (length ps) (length ps) space ≡ depthsOf ps
 
 -- region 3: the positions of the entries above
-pub record Linked (ps space : List ℕ) : Type 0 where
+pub record Parented (ps space : List ℕ) : Type 0 where
   pub walked : Walked ps space
   pub aboves : view (3 * length ps) (length ps) space ≡ abovesOf ps
 
 -- regions 4 and 5: the heights, and the positions to which the long paths continue
 pub record Pathed (ps space : List ℕ) : Type 0 where
-  pub linked : Linked ps space
+  pub parented : Parented ps space
   pub heights : view (4 * length ps) (length ps) space ≡ byPosition ps (height ps)
   pub longs : view (5 * length ps) (length ps) space ≡ byPosition ps (longPosition ps)
 

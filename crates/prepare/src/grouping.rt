@@ -6,7 +6,7 @@ ghost use lib.ListN.{length};
 ghost use Rattle.base.specs.Limits.{topMark};
 ghost use Rattle.tree.specs.Parents.{parent};
 ghost use Rattle.table.specs.Table.{groupCells};
-ghost use Rattle.prepare.specs.Arrays.{OneTree, entryAt, entriesOf, depthsOf, sizesOf, abovesOf};
+ghost use Rattle.prepare.specs.Arrays.{OneTree, entryAt, orderOf, depthsOf, sizesOf, abovesOf};
 use crate::places::GROUP_WORDS;
 use base::Position;
 use base::limits::GROUP_LIMIT;
@@ -22,7 +22,7 @@ pub(crate) fn groups(
     above: &[u32],
     cells: &mut [u32],
 )
-    requires { ⌜ OneTree (now parents) × (now order ≡ entriesOf (now parents)) × (now depth ≡ depthsOf (now parents)) × (now size ≡ sizesOf (now parents)) × (now above ≡ abovesOf (now parents)) × (length (now cells) ≡ 3 * length (now parents)) ⌝ }
+    requires { ⌜ OneTree (now parents) × (now order ≡ orderOf (now parents)) × (now depth ≡ depthsOf (now parents)) × (now size ≡ sizesOf (now parents)) × (now above ≡ abovesOf (now parents)) × (length (now cells) ≡ 3 * length (now parents)) ⌝ }
     ensures { λ _. ⌜ now (cells .exit) ≡ groupCells (now (parents .entry)) ⌝ }
 {
     let mut cell: usize = 0;
@@ -45,7 +45,7 @@ pub(crate) fn groups(
 
 // The entry above the one at a position, or the top mark.
 fn parent_word(parents: &[u32], order: &[u32], above: &[u32], at: Position) -> u32
-    requires { ⌜ OneTree (now parents) × (now order ≡ entriesOf (now parents)) × (now above ≡ abovesOf (now parents)) × (at .0 < length (now parents)) ⌝ }
+    requires { ⌜ OneTree (now parents) × (now order ≡ orderOf (now parents)) × (now above ≡ abovesOf (now parents)) × (at .0 < length (now parents)) ⌝ }
     ensures { λ r. ⌜ r ≡ Option·getD (parent (now (parents .entry)) (entryAt (now (parents .entry)) (at .0))) topMark ⌝ }
 {
     if at.0 == 0 {

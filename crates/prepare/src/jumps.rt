@@ -8,7 +8,7 @@ ghost use Rattle.tree.specs.Parents.{depth};
 ghost use Rattle.table.specs.Groups.{jumpNodes, jumpRecord};
 ghost use Rattle.table.specs.Ladders.{ladPos};
 ghost use Rattle.table.specs.Table.{ladderCells};
-ghost use Rattle.prepare.specs.Arrays.{OneTree, entriesOf, kindsOf};
+ghost use Rattle.prepare.specs.Arrays.{OneTree, orderOf, kindsOf};
 use crate::places::RECORD_WORDS;
 use base::Node;
 use base::Position;
@@ -16,7 +16,7 @@ use base::limits::MICRO_MARK;
 
 // The jump entries, in preorder: of the entries of size over 5 that lead to one jump entry, that entry stands last.
 pub(crate) fn jump_nodes(parents: &[u32], order: &[u32], kind: &[u32], cells: &mut [u32])
-    requires { ⌜ OneTree (now parents) × (now order ≡ entriesOf (now parents)) × (now kind ≡ kindsOf (now parents)) × (length (now cells) ≡ length (now parents)) ⌝ }
+    requires { ⌜ OneTree (now parents) × (now order ≡ orderOf (now parents)) × (now kind ≡ kindsOf (now parents)) × (length (now cells) ≡ length (now parents)) ⌝ }
     ensures { λ _. ⌜ take (length (jumpNodes groupLimit (now (parents .entry)))) (now (cells .exit)) ≡ jumpNodes groupLimit (now (parents .entry)) ⌝ }
 {
     let mut next = Position(0);

@@ -4,7 +4,7 @@ ghost use lib.ListN.{length};
 ghost use Rattle.base.specs.Limits.{groupLimit};
 ghost use Rattle.base.specs.Lists.{below};
 ghost use Rattle.table.specs.Groups.{groupRoots, jumpNodes, kind};
-ghost use Rattle.prepare.specs.Arrays.{OneTree, entriesOf, sizesOf};
+ghost use Rattle.prepare.specs.Arrays.{OneTree, orderOf, sizesOf};
 use base::Node;
 use base::Position;
 use base::limits::GROUP_LIMIT;
@@ -20,7 +20,7 @@ pub struct Counts {
 // KIND, each word in its entry's cell. A position of size 5 or less starts a group just where the last one has ended. The last position of a size over 5 is a
 // jump entry's just where the next such position lies past its family.
 pub(crate) fn kinds(parents: &[u32], order: &[u32], size: &[u32], cells: &mut [u32]) -> Counts
-    requires { ⌜ OneTree (now parents) × (now order ≡ entriesOf (now parents)) × (now size ≡ sizesOf (now parents)) × (length (now cells) ≡ length (now size)) ⌝ }
+    requires { ⌜ OneTree (now parents) × (now order ≡ orderOf (now parents)) × (now size ≡ sizesOf (now parents)) × (length (now cells) ≡ length (now size)) ⌝ }
     ensures counts { λ r. ⌜ (r .groups ≡ length (groupRoots groupLimit (now (parents .entry)))) × (r .jumps ≡ length (jumpNodes groupLimit (now (parents .entry)))) ⌝ }
     ensures laid { λ _. ⌜ now (cells .exit) ≡ below (length (now (parents .entry))) (kind groupLimit (now (parents .entry))) ⌝ }
 {

@@ -8,7 +8,7 @@ ghost use Rattle.tree.specs.Parents.{depth};
 ghost use Rattle.tree.specs.Forest.{height, pathTop};
 ghost use Rattle.table.specs.Ladders.{pathTops, ladPos};
 ghost use Rattle.table.specs.Table.{ladderCells};
-ghost use Rattle.prepare.specs.Arrays.{OneTree, entryAt, entriesOf, abovesOf, Risen};
+ghost use Rattle.prepare.specs.Arrays.{OneTree, entryAt, orderOf, abovesOf, Risen};
 ghost use Rattle.prepare.specs.Stages.{Pathed, Placed};
 use crate::places::ABOVES;
 use crate::places::HEIGHTS;
@@ -105,7 +105,7 @@ fn rise(
     count: u32,
     cells: &mut [u32],
 )
-    requires { ⌜ OneTree (now parents) × (now order ≡ entriesOf (now parents)) × (now above ≡ abovesOf (now parents)) × (count ≤ depth (now parents) (entryAt (now parents) (top .0))) × (top .0 < length (now order)) × (count ≤ place) × (place ≤ length (now cells)) ⌝ }
+    requires { ⌜ OneTree (now parents) × (now order ≡ orderOf (now parents)) × (now above ≡ abovesOf (now parents)) × (count ≤ depth (now parents) (entryAt (now parents) (top .0))) × (top .0 < length (now order)) × (count ≤ place) × (place ≤ length (now cells)) ⌝ }
     ensures { λ _. ⌜ Risen (now (parents .entry)) (entryAt (now (parents .entry)) (top .0)) place count (now (cells .entry)) (now (cells .exit)) ⌝ }
 {
     let mut at = top;

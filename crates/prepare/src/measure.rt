@@ -5,7 +5,7 @@ ghost use lib.ListN.{length, getD, set, replicate};
 ghost use Rattle.base.specs.Limits.{mostEntries, spaceWords, topMark};
 ghost use Rattle.base.specs.Lists.{put};
 ghost use Rattle.prepare.specs.Arrays.{OneTree, entryAt, abovePosition, depthsOf, abovesOf};
-ghost use Rattle.prepare.specs.Stages.{Linked, Measured};
+ghost use Rattle.prepare.specs.Stages.{Parented, Measured};
 use crate::places::ABOVES;
 use crate::places::HEIGHTS;
 use crate::places::LONGS;
@@ -45,7 +45,7 @@ fn higher(parents: &[u32], depth: &[u32], above: &[u32], at: Position) -> Positi
 // SIZE, HEIGHT and LONG by position into regions 2, 4 and 5 of the working space, from ABOVE in region 3 and the last position down: of children of one
 // height the first is met last.
 pub(crate) fn measures(parents: &[u32], space: &mut [u32])
-    requires { ⌜ Linked (now parents) (now space) ⌝ }
+    requires { ⌜ Parented (now parents) (now space) ⌝ }
     ensures { λ _. ⌜ Measured (now (parents .entry)) (now (space .exit)) ⌝ }
 {
     let n = parents.len();

@@ -4,13 +4,13 @@ ghost use Prim.Native.Nat.{ℕ};
 ghost use lib.ListN.{length};
 ghost use Rattle.base.specs.Lists.{below};
 ghost use Rattle.tree.specs.Forest.{position};
-ghost use Rattle.prepare.specs.Arrays.{OneTree, entriesOf, byPosition};
+ghost use Rattle.prepare.specs.Arrays.{OneTree, orderOf, byPosition};
 use base::Node;
 use base::Position;
 
 // The word of each position into the cell of the entry that stands there.
 pub(crate) fn scatter(parents: &[u32], order: &[u32], values: &[u32], cells: &mut [u32])
-    requires { ⌜ OneTree (now parents) × (now order ≡ entriesOf (now parents)) × (length (now values) ≡ length (now parents)) × (length (now cells) ≡ length (now parents)) ⌝ }
+    requires { ⌜ OneTree (now parents) × (now order ≡ orderOf (now parents)) × (length (now values) ≡ length (now parents)) × (length (now cells) ≡ length (now parents)) ⌝ }
     ensures { λ _. ⌜ ((f : ℕ → ℕ) → now (values .entry) ≡ byPosition (now (parents .entry)) f → now (cells .exit) ≡ below (length (now (parents .entry))) f) ⌝ }
 {
     let mut at = Position(0);
@@ -23,7 +23,7 @@ pub(crate) fn scatter(parents: &[u32], order: &[u32], values: &[u32], cells: &mu
 
 // Each position into the cell of the entry that stands there.
 pub(crate) fn positions(parents: &[u32], order: &[u32], cells: &mut [u32])
-    requires { ⌜ OneTree (now parents) × (now order ≡ entriesOf (now parents)) × (length (now cells) ≡ length (now parents)) ⌝ }
+    requires { ⌜ OneTree (now parents) × (now order ≡ orderOf (now parents)) × (length (now cells) ≡ length (now parents)) ⌝ }
     ensures { λ _. ⌜ now (cells .exit) ≡ below (length (now (parents .entry))) (position (now (parents .entry))) ⌝ }
 {
     let mut at = Position(0);

@@ -26,17 +26,17 @@ use Rattle.shapes.specs.Walks.{walkRound, shapeNumber}
 use Rattle.climbs.proofs.Groups.{rootsWithin}
 use Rattle.climbs.proofs.Jumps.{size-micro, size-macro}
 use Rattle.prepare.specs.Arrays.{OneTree, entryAt, depthsOf}
-use Rattle.prepare.proofs.Preorder.{Holds, small, order-many, holds-at}
+use Rattle.prepare.proofs.Preorder.{Located, small, order-many, located-at}
 use Rattle.prepare.proofs.Roots.{Ended, macro-none, root-next, root-none, ended-same, ended-group}
 
 -- the words of the groups among the first i positions, over those of a section, and where the next stand
-abbrev Words : List ℕ → List ℕ → ℕ → ℕ → List ℕ → Type 0
-Words ps old i at cells = Laid old (flatMap (groupWords groupLimit ps) (rootsWithin groupLimit ps i)) cells at
+abbrev GroupRows : List ℕ → List ℕ → ℕ → ℕ → List ℕ → Type 0
+GroupRows ps old i at cells = Laid old (flatMap (groupWords groupLimit ps) (rootsWithin groupLimit ps i)) cells at
 
 -- and none of those groups goes on at position i
 pub record GroupsBefore (ps old : List ℕ) (i at : ℕ) (cells : List ℕ) : Type 0 where
   pub room : length old ≡ 3 * length ps
-  pub words : Words ps old i at cells
+  pub words : GroupRows ps old i at cells
   pub ended : Ended groupLimit ps i i
 
 pub groups-none : {ps old : List ℕ} → length old ≡ 3 * length ps → GroupsBefore ps old 0 0 old
@@ -68,8 +68,8 @@ module _ {ps : List ℕ} (t : OneTree ps) {old : List ℕ} {i at : ℕ} {cells :
     abbrev v : ℕ
     v = entryAt ps i
 
-    here : Holds ps i v
-    here = holds-at t i h
+    here : Located ps i v
+    here = located-at t i h
 
     inner : i < length (order ps)
     inner = omega (arith, order-many t)
@@ -111,7 +111,7 @@ module _ {ps : List ℕ} (t : OneTree ps) {old : List ℕ} {i at : ℕ} {cells :
         starts : groupRoot groupLimit ps v ≡ true
         starts = root-next t groupLimit i i h (g .ended) (omega arith) (size-micro groupLimit ps v (omega arith))
 
-        words-more : (shape over : ℕ) → shape ≡ shapeNumber groupLimit (walkRound (under ps v)) → over ≡ Option·getD (parent ps v) topMark → Words ps old (i + 1) (at + 3) (set (set (set cells at i) (at + 1) shape) (at + 2) over)
+        words-more : (shape over : ℕ) → shape ≡ shapeNumber groupLimit (walkRound (under ps v)) → over ≡ Option·getD (parent ps v) topMark → GroupRows ps old (i + 1) (at + 3) (set (set (set cells at i) (at + 1) shape) (at + 2) over)
         unfolding groupWords
         words-more shape over s o =
             let room = g .room in
@@ -125,7 +125,7 @@ module _ {ps : List ℕ} (t : OneTree ps) {old : List ℕ} {i at : ℕ} {cells :
             let y : (at + 2) + 1 ≡ at + 3 = omega arith in
             rw (q, ← y) (rw z at l)
 
-        words-hop : (at₁ : ℕ) (cells₁ : List ℕ) → Words ps old (i + 1) at₁ cells₁ → (k : ℕ) → (i + 1) + k ≤ i + x → Words ps old ((i + 1) + k) at₁ cells₁
+        words-hop : (at₁ : ℕ) (cells₁ : List ℕ) → GroupRows ps old (i + 1) at₁ cells₁ → (k : ℕ) → (i + 1) + k ≤ i + x → GroupRows ps old ((i + 1) + k) at₁ cells₁
         words-hop at₁ cells₁ w zero l = let z : (i + 1) + zero ≡ i + 1 = omega arith in rw z w
         words-hop at₁ cells₁ w (suc k) l =
             let z : (i + 1) + suc k ≡ ((i + 1) + k) + 1 = omega arith in

@@ -13,7 +13,7 @@ use Rattle.tree.specs.Forest.{order}
 use Rattle.table.specs.Groups.{micro, jumpNode, jumpNodes, microKind, kind}
 use Rattle.climbs.proofs.Jumps.{jump-not, macro-kind}
 use Rattle.prepare.specs.Arrays.{OneTree, entryAt}
-use Rattle.prepare.proofs.Preorder.{Holds, small, order-many, holds-at}
+use Rattle.prepare.proofs.Preorder.{Located, small, order-many, located-at}
 use Rattle.prepare.proofs.kinds.Turns.{jumpsWithin}
 
 -- the jump entries among the first i positions
@@ -34,8 +34,8 @@ module _ {ps : List ℕ} (t : OneTree ps) (i : ℕ) where
     abbrev v : ℕ
     v = entryAt ps i
 
-    here : Holds ps i v
-    here = holds-at t i h
+    here : Located ps i v
+    here = located-at t i h
 
     inner : i < length (order ps)
     inner = omega (arith, order-many t)
@@ -60,8 +60,8 @@ module _ {ps : List ℕ} (t : OneTree ps) (i : ℕ) where
           absurd (omega (arith, q))
       macro-unmarked false m a = macro-counts m
 
-      pub jumps-room : k < microMark → k < length ps
-      jumps-room b = omega (arith, macro-unmarked (micro groupLimit ps v) refl b, few-before)
+      pub node-room : k < microMark → k < length ps
+      node-room b = omega (arith, macro-unmarked (micro groupLimit ps v) refl b, few-before)
 
       module _ (cells : List ℕ) (l : JumpsBefore ps i cells) where
         -- a macro entry stands in the cell of its kind until a later one of that kind takes the cell
@@ -76,7 +76,7 @@ module _ {ps : List ℕ} (t : OneTree ps) (i : ℕ) where
                 let next = keep-next (jumpNode groupLimit ps) (order ps) i inner m in
                 let c : length (jumpsWithin groupLimit ps (i + 1)) ≡ suc k = ap length next ∙ omega (arith, z, length-append (jumpsWithin groupLimit ps i) (v ∷ [])) in
                 ap (λ c. take c (set cells k x)) c
-                ∙ take-suc-set cells k x (omega (arith, jumps-room b))
+                ∙ take-suc-set cells k x (omega (arith, node-room b))
                 ∙ ap (λ c. take c cells ++ (x ∷ [])) z
                 ∙ ap (λ w. w ++ (x ∷ [])) l
                 ∙ ap (λ y. jumpsWithin groupLimit ps i ++ (y ∷ [])) q

@@ -27,7 +27,7 @@ use Rattle.table.specs.Groups.{micro, groupRoot, groupRoots, jumpNode, jumpNode
 use Rattle.climbs.proofs.Jumps.{size-micro, size-macro, jump-parts, jump-is, jump-not, macro-up, micro-down, macro-kind}
 use Rattle.climbs.proofs.Groups.{rootsWithin, Grouped, grouped-under, root-micro}
 use Rattle.prepare.specs.Arrays.{OneTree, entryAt}
-use Rattle.prepare.proofs.Preorder.{Holds, small, order-many, entries-some, holds-at, holds-of}
+use Rattle.prepare.proofs.Preorder.{Located, small, order-many, entries-some, located-at, located-of}
 use Rattle.prepare.proofs.Roots.{Ended, macro-none, root-next, root-none, in-family, ended-same, ended-root}
 use Rattle.prepare.proofs.spread.Writes.{Written, written-none, written-more, written-all}
 
@@ -39,7 +39,7 @@ module _ {ps : List ℕ} (t : OneTree ps) (L : ℕ) where
   root-above-all : (v : ℕ) → v < length ps → Ancestor ps (entryAt ps 0) v
   root-above-all v h =
       let (k, e) = t .tree .climbs v h in
-      let q : entryAt ps 0 ≡ t .tree .root = ap (entryAt ps) (sym (root-first ps (small t) (t .tree))) ∙ holds-of t (t .tree .root) (root-in ps (small t) (t .tree) .0) .entry in
+      let q : entryAt ps 0 ≡ t .tree .root = ap (entryAt ps) (sym (root-first ps (small t) (t .tree))) ∙ located-of t (t .tree .root) (root-in ps (small t) (t .tree) .0) .entry in
       rw q (record { climbs = k; reached = e })
 
   -- a macro entry with micro entries alone in the rest of its family is a jump entry
@@ -49,35 +49,35 @@ module _ {ps : List ℕ} (t : OneTree ps) (L : ℕ) where
       go : (b : Bool) → every (micro L ps) (children ps (entryAt ps m)) ≡ b → jumpNode L ps (entryAt ps m) ≡ true
       go true q = jump-is L ps (entryAt ps m) e q
       go false q =
-          let here = holds-at t m h in
+          let here = located-at t m h in
           let (c, k, n) = every-false (micro L ps) (children ps (entryAt ps m)) q in
           let (hc, w) = child-of ps (small t) (entryAt ps m) c k in
           let p : parent ps c ≡ some (entryAt ps m) = parent-in ps c hc (omega (arith, here .inside)) ∙ ap some w in
           let b = parent-before ps (small t) (t .tree) c (entryAt ps m) p in
           let s = quiet (position ps c) (omega arith) (omega (arith, inside ps (small t) (t .tree) (entryAt ps m) c (ancestor-parent ps (small t) (t .tree) c (entryAt ps m) p) .1)) in
-          clash (sym n ∙ rw (holds-of t c hc .entry) at s)
+          clash (sym n ∙ rw (located-of t c hc .entry) at s)
 
   -- one in whose family the next macro entry stands is none
   jump-left : (m i : ℕ) → m < i → i < length ps → i < m + size ps (entryAt ps m) → micro L ps (entryAt ps i) ≡ false → ((k : ℕ) → m < k → k < i → micro L ps (entryAt ps k) ≡ true) → jumpNode L ps (entryAt ps m) ≡ false
   jump-left m i b h s e quiet = go (jumpNode L ps (entryAt ps m)) refl
     where
-      low : Holds ps m (entryAt ps m)
-      low = holds-at t m (omega arith)
+      low : Located ps m (entryAt ps m)
+      low = located-at t m (omega arith)
 
-      here : Holds ps i (entryAt ps i)
-      here = holds-at t i h
+      here : Located ps i (entryAt ps i)
+      here = located-at t i h
 
       child : (p : ℕ) → parent ps (entryAt ps i) ≡ some p → Ancestor ps (entryAt ps m) p → Dec (position ps p ≡ m) → jumpNode L ps (entryAt ps m) ≡ true → _≡_ {A = Bool} true false
       child p q a (yes d) j =
           let (x, y, w) = parent-some ps (entryAt ps i) p q in
-          let z : p ≡ entryAt ps m = sym (holds-of t p y .entry) ∙ ap (entryAt ps) d in
+          let z : p ≡ entryAt ps m = sym (located-of t p y .entry) ∙ ap (entryAt ps) d in
           let among : 1 ≤ times (entryAt ps i) (children ps (entryAt ps m)) = omega (arith, rw (w ∙ z) at (of-child ps (small t) (entryAt ps i) (here .inside))) in
           clash (sym e ∙ every-true (micro L ps) (children ps (entryAt ps m)) (jump-parts L ps (entryAt ps m) j .1) (entryAt ps i) among)
       child p q a (no d) j =
           let (x, y, w) = parent-some ps (entryAt ps i) p q in
           let n = macro-up ps (small t) (t .tree) L p (entryAt ps i) (ancestor-parent ps (small t) (t .tree) (entryAt ps i) p q) (here .inside) e in
           let s = quiet (position ps p) (omega (arith, inside ps (small t) (t .tree) (entryAt ps m) p a .0, low .place)) (omega (arith, parent-before ps (small t) (t .tree) (entryAt ps i) p q, here .place)) in
-          clash (sym n ∙ rw (holds-of t p y .entry) at s)
+          clash (sym n ∙ rw (located-of t p y .entry) at s)
 
       first : (entryAt ps i ≡ entryAt ps m) ⊎ ((p : ℕ) × (parent ps (entryAt ps i) ≡ some p) × Ancestor ps (entryAt ps m) p) → jumpNode L ps (entryAt ps m) ≡ true → _≡_ {A = Bool} true false
       first (inl q) j = absurd (omega (arith, ap (position ps) q, low .place, here .place))
@@ -92,7 +92,7 @@ module _ {ps : List ℕ} (t : OneTree ps) (L : ℕ) where
 -- what SIZE says of a position
 module _ {ps : List ℕ} (t : OneTree ps) (i : ℕ) (h : i < length ps) (x : ℕ) (e : x ≡ size ps (entryAt ps i)) where
   pub size-small : x ≤ mostEntries
-  size-small = let few = t .few in omega (arith, few, e, family-room ps (small t) (t .tree) (entryAt ps i) (holds-at t i h .inside))
+  size-small = let few = t .few in omega (arith, few, e, family-room ps (small t) (t .tree) (entryAt ps i) (located-at t i h .inside))
 
   pub word-micro : x ≤ groupLimit → micro groupLimit ps (entryAt ps i) ≡ true
   word-micro b = size-micro groupLimit ps (entryAt ps i) (omega arith)
@@ -113,7 +113,7 @@ pub record Group (ps : List ℕ) (L root end : ℕ) : Type 0 where
   pub ends : end ≡ root + size ps (entryAt ps root)
 
 -- position i is in that group, the last up to there
-pub record InGroup (ps : List ℕ) (L i groups root end : ℕ) : Type 0 where
+pub record OpenGroup (ps : List ℕ) (L i groups root end : ℕ) : Type 0 where
   pub group : Group ps L root end
   pub low : root ≤ i
   pub high : i < end
@@ -152,8 +152,8 @@ module _ {ps : List ℕ} (t : OneTree ps) {L i groups jumps root end last : ℕ}
     abbrev v : ℕ
     v = entryAt ps i
 
-    here : Holds ps i v
-    here = holds-at t i h
+    here : Located ps i v
+    here = located-at t i h
 
     ho : i < length (order ps)
     ho = omega (arith, order-many t)
@@ -175,8 +175,8 @@ module _ {ps : List ℕ} (t : OneTree ps) {L i groups jumps root end last : ℕ}
           }
 
     -- a micro entry past the last group starts the next, and one before its end is in it
-    pub open-next : micro L ps v ≡ true → end ≤ i → (x : ℕ) → x ≡ size ps v → InGroup ps L i (groups + 1) i (i + x)
-    open-next m b x q =
+    pub group-opens : micro L ps v ≡ true → end ≤ i → (x : ℕ) → x ≡ size ps v → OpenGroup ps L i (groups + 1) i (i + x)
+    group-opens m b x q =
         let e = root-next t L i end h (s .ended) b m in
         record {
           group = record { starts = e; ends = omega arith };
@@ -186,8 +186,8 @@ module _ {ps : List ℕ} (t : OneTree ps) {L i groups jumps root end last : ℕ}
           ended = rw q (ended-root t L i end b (s .ended));
         }
 
-    pub open-same : i < end → InGroup ps L i groups root end
-    open-same b =
+    pub group-goes-on : i < end → OpenGroup ps L i groups root end
+    group-goes-on b =
         let (low, o) = s .reaching b in
         let e = root-none t L root i h (omega arith) (omega (arith, o .ends)) (o .starts) low in
         record {
@@ -199,7 +199,7 @@ module _ {ps : List ℕ} (t : OneTree ps) {L i groups jumps root end last : ℕ}
         }
 
     -- a micro entry, in a group
-    module _ {groups₁ root₁ end₁ : ℕ} (o : InGroup ps L i groups₁ root₁ end₁) where
+    module _ {groups₁ root₁ end₁ : ℕ} (o : OpenGroup ps L i groups₁ root₁ end₁) where
       abbrev r : ℕ
       r = entryAt ps root₁
 
@@ -207,7 +207,7 @@ module _ {ps : List ℕ} (t : OneTree ps) {L i groups jumps root end last : ℕ}
       under = in-family t L root₁ i h (o .low) (omega (arith, o .high, o .group .ends))
 
       member : Grouped L ps v r (length (rootsWithin L ps (position ps r))) (i - root₁)
-      member = grouped-under ps little (t .tree) L r v (i - root₁) (o .group .starts) under (omega (arith, here .place, o .low, holds-at t root₁ (omega (arith, h, o .low)) .place))
+      member = grouped-under ps little (t .tree) L r v (i - root₁) (o .group .starts) under (omega (arith, here .place, o .low, located-at t root₁ (omega (arith, h, o .low)) .place))
 
       numbered : suc (length (rootsWithin L ps (position ps r))) ≡ groups₁
       numbered = member .upto ∙ ap (λ j. length (rootsWithin L ps (suc j))) (here .place) ∙ rw (← add-one i) (sym (o .groups-are))
@@ -279,22 +279,22 @@ module _ {ps : List ℕ} (t : OneTree ps) {L i groups jumps root end last : ℕ}
     whole : take i (order ps) ≡ order ps
     whole = take-all i (order ps) (omega (arith, order-many t))
 
-    pub groups-end : groups ≡ length (groupRoots L ps)
-    groups-end = s .groups-are ∙ ap (λ l. length (keep (groupRoot L ps) l)) whole
+    pub groups-all : groups ≡ length (groupRoots L ps)
+    groups-all = s .groups-are ∙ ap (λ l. length (keep (groupRoot L ps) l)) whole
 
-    pub jumps-none : micro L ps (entryAt ps 0) ≡ true → jumps ≡ length (jumpNodes L ps)
+    pub jumps-zero : micro L ps (entryAt ps 0) ≡ true → jumps ≡ length (jumpNodes L ps)
     unfolding keep
-    jumps-none e =
+    jumps-zero e =
         let (z, q) = s .no-macro e in
         s .jumps-are ∙ ap (λ j. length (jumpsWithin L ps j)) z ∙ sym (sym (ap (λ l. length (keep (jumpNode L ps) l)) whole) ∙ q)
 
     pub jumps-end : micro L ps (entryAt ps 0) ≡ false → jumps + 1 ≡ length (jumpNodes L ps)
     jumps-end e =
         let o = s .lasting e (omega (arith, entries-some t)) in
-        let low = holds-at t last (omega (arith, o .before)) in
+        let low = located-at t last (omega (arith, o .before)) in
         let b : last + size ps (entryAt ps last) ≤ i = omega (arith, low .place, family-room ps little (t .tree) (entryAt ps last) (low .inside)) in
         let q : length (jumpsWithin L ps i) ≡ jumps + 1 = o .run ∙ keep-count (jumpNode L ps) (order ps) last (omega (arith, low .low, order-many t)) ∙ rw (jump-alone t L last i (low .low) b (o .macro) (o .quiet)) (omega (arith, s .jumps-are)) in
         sym q ∙ ap (λ l. length (keep (jumpNode L ps) l)) whole
 
     pub kinds-end : cells ≡ below (length ps) (kind L ps)
-    kinds-end = written-all t (s .kinds) (omega arith) (kind L ps) (λ v h. ap (kind L ps) (holds-of t v h .entry))
+    kinds-end = written-all t (s .kinds) (omega arith) (kind L ps) (λ v h. ap (kind L ps) (located-of t v h .entry))

@@ -23,7 +23,7 @@ use Rattle.climbs.proofs.Ladders.{rise, ladpos-in, ladder-own, lemma-5}
 use Rattle.climbs.proofs.Room.{ladders-fit}
 use Rattle.climbs.proofs.LadderWords.{filled}
 use Rattle.prepare.specs.Arrays.{OneTree, entryAt, abovePosition, Risen}
-use Rattle.prepare.proofs.Preorder.{small, holds-at, over-of}
+use Rattle.prepare.proofs.Preorder.{small, located-at, over-of}
 
 -- so many climbs up, at a position
 pub record Climbed (ps : List ℕ) (v k at : ℕ) : Type 0 where
@@ -33,7 +33,7 @@ pub record Climbed (ps : List ℕ) (v k at : ℕ) : Type 0 where
 module _ {ps : List ℕ} (t : OneTree ps) where
   pub climbed-none : (i : ℕ) → i < length ps → Climbed ps (entryAt ps i) 0 i
   unfolding up
-  climbed-none i h = record { inside = h; reached = entry-in ps (entryAt ps i) (holds-at t i h .inside) }
+  climbed-none i h = record { inside = h; reached = entry-in ps (entryAt ps i) (located-at t i h .inside) }
 
   -- one climb further
   pub climbed-more : {v k at j : ℕ} → j ≡ abovePosition ps (entryAt ps at) → v < length ps → k < depth ps v → Climbed ps v k at → Climbed ps v (k + 1) j
@@ -69,20 +69,20 @@ risen-more ps v place k old new x h b e r =
     }
 
 -- a word is that of the ladders
-abbrev pub Right : List ℕ → List ℕ → ℕ → Type 0
-Right ps cells j = getD cells j 0 ≡ getD (flatten (ladders ps)) j 0
+abbrev pub RightWord : List ℕ → List ℕ → ℕ → Type 0
+RightWord ps cells j = getD cells j 0 ≡ getD (flatten (ladders ps)) j 0
 
 -- the words of the first i positions are right
 pub record RungsBefore (ps : List ℕ) (i : ℕ) (cells : List ℕ) : Type 0 where
   pub size : length cells ≡ 2 * length ps
-  pub own : (k : ℕ) → k < i → Right ps cells (ladPos ps (entryAt ps k))
-  pub over : (k : ℕ) → k < i → pathTop ps (entryAt ps k) ≡ true → (m : ℕ) → 1 ≤ m → m ≤ rise ps (entryAt ps k) → Right ps cells (ladPos ps (entryAt ps k) - m)
+  pub own : (k : ℕ) → k < i → RightWord ps cells (ladPos ps (entryAt ps k))
+  pub over : (k : ℕ) → k < i → pathTop ps (entryAt ps k) ≡ true → (m : ℕ) → 1 ≤ m → m ≤ rise ps (entryAt ps k) → RightWord ps cells (ladPos ps (entryAt ps k) - m)
 
 -- a right word keeps every other
-right-set : (ps cells : List ℕ) (at x j : ℕ) → at < length cells → x ≡ getD (flatten (ladders ps)) at 0 → Right ps cells j → Right ps (set cells at x) j
+right-set : (ps cells : List ℕ) (at x j : ℕ) → at < length cells → x ≡ getD (flatten (ladders ps)) at 0 → RightWord ps cells j → RightWord ps (set cells at x) j
 right-set ps cells at x j h e r = go (ℕ-discrete j at)
   where
-    go : Dec (j ≡ at) → Right ps (set cells at x) j
+    go : Dec (j ≡ at) → RightWord ps (set cells at x) j
     go (yes q) = rw q (getD-set-same cells at x 0 h ∙ e)
     go (no q) = getD-set-other cells at j x 0 q ∙ r
 
@@ -124,24 +124,24 @@ module _ {ps : List ℕ} (t : OneTree ps) where
     v = entryAt ps i
 
     hv : v < length ps
-    hv = holds-at t i h .inside
+    hv = located-at t i h .inside
 
     pub place-room : (cells : List ℕ) → RungsBefore ps i cells → ladPos ps v < length cells
     place-room cells s = omega (arith, s .size, ladpos-in ps (small t) (t .tree) v hv, ladders-fit ps (small t) (t .tree))
 
     -- one position further
-    fill-more : (cells new : List ℕ) → RungsBefore ps i cells → length new ≡ length cells → ((j : ℕ) → Right ps cells j → Right ps new j) → Right ps new (ladPos ps v)
-        → (pathTop ps v ≡ true → (m : ℕ) → 1 ≤ m → m ≤ rise ps v → Right ps new (ladPos ps v - m)) → RungsBefore ps (i + 1) new
+    fill-more : (cells new : List ℕ) → RungsBefore ps i cells → length new ≡ length cells → ((j : ℕ) → RightWord ps cells j → RightWord ps new j) → RightWord ps new (ladPos ps v)
+        → (pathTop ps v ≡ true → (m : ℕ) → 1 ≤ m → m ≤ rise ps v → RightWord ps new (ladPos ps v - m)) → RungsBefore ps (i + 1) new
     fill-more cells new s n keeps own over = record {
       size = n ∙ s .size;
-      own = below-more (λ k. Right ps new (ladPos ps (entryAt ps k))) i (λ k l. keeps _ (s .own k l)) own;
-      over = below-more (λ k. pathTop ps (entryAt ps k) ≡ true → (m : ℕ) → 1 ≤ m → m ≤ rise ps (entryAt ps k) → Right ps new (ladPos ps (entryAt ps k) - m)) i (λ k l t m a b. keeps _ (s .over k l t m a b)) over;
+      own = below-more (λ k. RightWord ps new (ladPos ps (entryAt ps k))) i (λ k l. keeps _ (s .own k l)) own;
+      over = below-more (λ k. pathTop ps (entryAt ps k) ≡ true → (m : ℕ) → 1 ≤ m → m ≤ rise ps (entryAt ps k) → RightWord ps new (ladPos ps (entryAt ps k) - m)) i (λ k l t m a b. keeps _ (s .over k l t m a b)) over;
     }
 
-    own-right : (cells : List ℕ) → RungsBefore ps i cells → (j : ℕ) → Right ps cells j → Right ps (set cells (ladPos ps v) v) j
+    own-right : (cells : List ℕ) → RungsBefore ps i cells → (j : ℕ) → RightWord ps cells j → RightWord ps (set cells (ladPos ps v) v) j
     own-right cells s j r = right-set ps cells (ladPos ps v) v j (place-room cells s) (sym (ladder-own ps (small t) (t .tree) v hv)) r
 
-    own-here : (cells : List ℕ) → RungsBefore ps i cells → Right ps (set cells (ladPos ps v) v) (ladPos ps v)
+    own-here : (cells : List ℕ) → RungsBefore ps i cells → RightWord ps (set cells (ladPos ps v) v) (ladPos ps v)
     own-here cells s = getD-set-same cells (ladPos ps v) v 0 (place-room cells s) ∙ sym (ladder-own ps (small t) (t .tree) v hv)
 
     pub fill-inner : (cells : List ℕ) → RungsBefore ps i cells → pathTop ps v ≡ false → RungsBefore ps (i + 1) (set cells (ladPos ps v) v)
@@ -149,15 +149,15 @@ module _ {ps : List ℕ} (t : OneTree ps) where
 
     -- the ancestors before a path top's word
     module _ (old new : List ℕ) (r : Risen ps v (ladPos ps v) (rise ps v) old new) where
-      risen-here : (m : ℕ) → 1 ≤ m → m ≤ rise ps v → Right ps new (ladPos ps v - m)
+      risen-here : (m : ℕ) → 1 ≤ m → m ≤ rise ps v → RightWord ps new (ladPos ps v - m)
       risen-here m a b =
           let (u, e) = up-some ps (small t) (t .tree) m v hv (omega arith) in
           r .words m u a b e ∙ sym (lemma-5 ps (small t) (t .tree) v m u (omega arith) e .1)
 
-      risen-keeps : (j : ℕ) → Right ps old j → Right ps new j
+      risen-keeps : (j : ℕ) → RightWord ps old j → RightWord ps new j
       risen-keeps j q = go (decLt (j + rise ps v) (ladPos ps v)) (decLe (ladPos ps v) j)
         where
-          go : Dec (j + rise ps v < ladPos ps v) → Dec (ladPos ps v ≤ j) → Right ps new j
+          go : Dec (j + rise ps v < ladPos ps v) → Dec (ladPos ps v ≤ j) → RightWord ps new j
           go (yes a) b = r .before j a ∙ q
           go (no a) (yes b) = r .behind j b ∙ q
           go (no a) (no b) =

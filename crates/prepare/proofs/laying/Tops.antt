@@ -15,7 +15,7 @@ use Rattle.climbs.proofs.Ladders.{ladpos-next, ladpos-in}
 use Rattle.climbs.proofs.Room.{ladders-fit}
 use Rattle.prepare.specs.Arrays.{OneTree, entryAt, abovePosition, longPosition}
 use Rattle.prepare.specs.Stages.{Pathed}
-use Rattle.prepare.proofs.Preorder.{Over, small, entries-some, holds-at, holds-of, first-none, over-of, over-at, region-words}
+use Rattle.prepare.proofs.Preorder.{Over, small, entries-some, located-at, located-of, no-parent, over-of, over-at, region-words}
 use Rattle.prepare.proofs.Space.{tree-of}
 
 module _ {ps space : List ℕ} (u : Pathed ps space) where
@@ -23,7 +23,7 @@ module _ {ps space : List ℕ} (u : Pathed ps space) where
   n = length ps
 
   pub tree-in : OneTree ps
-  tree-in = tree-of (u .linked .walked)
+  tree-in = tree-of (u .parented .walked)
 
   little : n ≤ topMark
   little = small tree-in
@@ -33,10 +33,10 @@ module _ {ps space : List ℕ} (u : Pathed ps space) where
   up-from i = getD space (3 * n + i) 0
 
   above-word : (i : ℕ) → i < n → up-from i ≡ abovePosition ps (entryAt ps i)
-  above-word = region-words tree-in (abovePosition ps) (3 * n) space (u .linked .aboves)
+  above-word = region-words tree-in (abovePosition ps) (3 * n) space (u .parented .aboves)
 
   pub top-first : pathTop ps (entryAt ps 0) ≡ true
-  top-first = path-top-root ps little (tree-in .tree) (entryAt ps 0) (holds-at tree-in 0 (entries-some tree-in) .inside) (first-none tree-in)
+  top-first = path-top-root ps little (tree-in .tree) (entryAt ps 0) (located-at tree-in 0 (entries-some tree-in) .inside) (no-parent tree-in)
 
   module _ (i : ℕ) (b : 0 < i) (h : i < n) where
     over : (p : ℕ) × Over ps i (up-from i) p
@@ -57,7 +57,7 @@ module _ {ps space : List ℕ} (u : Pathed ps space) where
         go (some c) q s =
             let hp = over .1 .there .inside in
             let hc = parent-some ps c (over .0) (long-child ps little (tree-in .tree) (over .0) c q hp .0) .0 in
-            let z : c ≡ entryAt ps i = sym (holds-of tree-in c hc .entry) ∙ ap (entryAt ps) s in
+            let z : c ≡ entryAt ps i = sym (located-of tree-in c hc .entry) ∙ ap (entryAt ps) s in
             sym (rw z at (long-no-top ps little (tree-in .tree) (over .0) c q hp))
 
     pub top-yes : (getD space (5 * n + up-from i) 0 ≡ i → ⊥) → true ≡ pathTop ps (entryAt ps i)
@@ -67,7 +67,7 @@ module _ {ps space : List ℕ} (u : Pathed ps space) where
         go : (b : Bool) → pathTop ps (entryAt ps i) ≡ b → b ≡ true
         go true e = refl
         go false e =
-            let here = holds-at tree-in i h in
+            let here = located-at tree-in i h in
             let (p, q, l) = path-top-no ps little (tree-in .tree) (entryAt ps i) e (here .inside) in
             let z : p ≡ over .0 = Option·some-injective p (over .0) (sym q ∙ over .1 .parent-is) in
             let is : longPosition ps (over .0) ≡ i = rw (sym z, l) (here .place) in
@@ -76,7 +76,7 @@ module _ {ps space : List ℕ} (u : Pathed ps space) where
   -- the place behind that of the entry above, where the path goes on
   module _ (i : ℕ) (h : i < n) (goes : pathTop ps (entryAt ps i) ≡ false) where
     from : (p : ℕ) × Over ps i (up-from i) p
-    from = let (p, q, l) = path-top-no ps little (tree-in .tree) (entryAt ps i) goes (holds-at tree-in i h .inside) in (p, over-of tree-in i h (above-word i h) p q)
+    from = let (p, q, l) = path-top-no ps little (tree-in .tree) (entryAt ps i) goes (located-at tree-in i h .inside) in (p, over-of tree-in i h (above-word i h) p q)
 
     pub from-less : up-from i < i
     from-less = from .1 .earlier

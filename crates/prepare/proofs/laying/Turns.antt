@@ -63,7 +63,7 @@ module _ {ps : List ℕ} {i paths words : ℕ} {space cells : List ℕ} (s : Pat
     paths-end = s .paths-are ∙ ap (λ j. length (topsWithin ps j)) all ∙ ap length (tops-all ps little (t .tree))
 
     pub places-end : Placed ps space
-    places-end = record { pathed = s .pathed; places = words-region t (ladPos ps) (2 * n) space (omega (arith, s .pathed .linked .walked .room)) (λ k h. s .placed k (omega arith)) }
+    places-end = record { pathed = s .pathed; places = words-region t (ladPos ps) (2 * n) space (omega (arith, s .pathed .parented .walked .room)) (λ k h. s .placed k (omega arith)) }
 
     pub rungs-end : (tail : List ℕ) → tail ≡ replicate (length (midOf words (length cells - words) cells)) 0 → putMid words (length cells - words) cells tail ≡ ladderCells ps
     rungs-end tail b =
@@ -87,7 +87,7 @@ module _ {ps : List ℕ} {i paths words : ℕ} {space cells : List ℕ} (s : Pat
         let at = 2 * n + i in
         below-more (λ k. getD (set space at x) (2 * n + k) 0 ≡ ladPos ps (entryAt ps k)) i
         (λ k b. getD-set-other space at (2 * n + k) x 0 (λ z. omega arith) ∙ s .placed k b)
-        (getD-set-same space at x 0 (omega (arith, s .pathed .linked .walked .room)) ∙ q)
+        (getD-set-same space at x 0 (omega (arith, s .pathed .parented .walked .room)) ∙ q)
 
     pathed-more : (x : ℕ) → Pathed ps (set space (2 * n + i) x)
     pathed-more x = pathed-set (2 * n + i) x (omega arith) (omega arith) (s .pathed)
@@ -116,7 +116,7 @@ module _ {ps : List ℕ} {i paths words : ℕ} {space cells : List ℕ} (s : Pat
             paths-are = rw (add-one i, tops-more ps little (t .tree) i v h refl top) (omega (arith, length-append (topsWithin ps i) (v ∷ []), s .paths-are));
             words-are = omega (arith, rungs-next, q, w);
             placed = placed-more place own;
-            rungs = rw (own, entry-word (s .pathed .linked .walked) i h) (fill-top t i h cells mid (s .rungs) (rw own at r));
+            rungs = rw (own, entry-word (s .pathed .parented .walked) i h) (fill-top t i h cells mid (s .rungs) (rw own at r));
           })
 
     -- where one goes on
@@ -128,5 +128,5 @@ module _ {ps : List ℕ} {i paths words : ℕ} {space cells : List ℕ} (s : Pat
           paths-are = rw (add-one i, tops-same ps little (t .tree) i v h refl goes) (s .paths-are);
           words-are = rw (add-one i, rungs-same ps little (t .tree) i v h refl goes) (s .words-are);
           placed = placed-more place own;
-          rungs = rw (own, entry-word (s .pathed .linked .walked) i h) (fill-inner t i h cells (s .rungs) goes);
+          rungs = rw (own, entry-word (s .pathed .parented .walked) i h) (fill-inner t i h cells (s .rungs) goes);
         })

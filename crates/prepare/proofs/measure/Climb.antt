@@ -13,7 +13,7 @@ use Rattle.tree.specs.Level.{Ancestor}
 use Rattle.tree.proofs.Depths.{depth-parent, up-depth}
 use Rattle.tree.proofs.Intervals.{ancestor-first, next-parent}
 use Rattle.prepare.specs.Arrays.{OneTree, entryAt, abovePosition}
-use Rattle.prepare.proofs.Preorder.{small, holds-at, above-parent, over-of}
+use Rattle.prepare.proofs.Preorder.{small, located-at, above-parent, over-of}
 
 -- the entry above the one at a position is on the climb from another
 pub record OnClimb (ps : List ℕ) (at over : ℕ) : Type 0 where
@@ -55,5 +55,5 @@ module _ {ps : List ℕ} (t : OneTree ps) where
     climb-end b g = go first
       where
         go : First → over ≡ abovePosition ps (entryAt ps at)
-        go (inl e) = sym (above-parent t (entryAt ps at) (r .upper) (r .parent-is) ∙ ap (position ps) (sym e) ∙ holds-at t over b .place)
+        go (inl e) = sym (above-parent t (entryAt ps at) (r .upper) (r .parent-is) ∙ ap (position ps) (sym e) ∙ located-at t over b .place)
         go (inr (p, e, a)) = absurd (omega (arith, deeper, depth-parent ps (small t) (t .tree) (entryAt ps over) p e, up-depth ps (small t) (t .tree) (a .climbs) p (r .upper) (a .reached)))

@@ -21,7 +21,7 @@ use Rattle.tree.proofs.Positions.{at-position, position-in}
 use Rattle.tree.proofs.Intervals.{family-room, parent-before}
 use Rattle.tree.proofs.Siblings.{Child, child, size-join, height-most}
 use Rattle.prepare.specs.Arrays.{OneTree, entryAt}
-use Rattle.prepare.proofs.Preorder.{Over, Words, small, holds-at}
+use Rattle.prepare.proofs.Preorder.{Over, Words, small, located-at}
 
 -- a number that is not i is at least i just where it is more
 leb-next : (i x : ℕ) → (x ≡ i → ⊥) → leb i x ≡ leb (suc i) x
@@ -117,7 +117,7 @@ module _ {ps : List ℕ} (t : OneTree ps) where
     words-none e k h = e k h ∙ ap g (sym (part-none t (entryAt ps k)))
 
     pub words-all : (i : ℕ) → WordsFrom ps g i read → (k : ℕ) → i ≤ suc k → k < length ps → read k ≡ g (under ps (entryAt ps k))
-    words-all i w k b h = let here = holds-at t k h in w k h ∙ ap g (part-all t i (entryAt ps k) (here .inside) (omega arith))
+    words-all i w k b h = let here = located-at t k h in w k h ∙ ap g (part-all t i (entryAt ps k) (here .inside) (omega arith))
 
   -- one position further down
   module _ (at over p : ℕ) (h : at < length ps) (o : Over ps at over p) where
@@ -125,7 +125,7 @@ module _ {ps : List ℕ} (t : OneTree ps) where
     c = entryAt ps at
 
     c-at : position ps c ≡ at
-    c-at = holds-at t at h .place
+    c-at = located-at t at h .place
 
     abbrev grown : Forest
     grown = node c (under ps c) (underFrom ps (suc at) (entryAt ps over))
@@ -134,7 +134,7 @@ module _ {ps : List ℕ} (t : OneTree ps) where
     more = rw (o .there .entry) (rw c-at at (part-more t c p (o .parent-is)))
 
     same : (k : ℕ) → k < length ps → (k ≡ over → ⊥) → underFrom ps at (entryAt ps k) ≡ underFrom ps (suc at) (entryAt ps k)
-    same k l q = rw c-at at (part-same t c p (o .parent-is) (entryAt ps k) (λ z. q (sym (holds-at t k l .place) ∙ ap (position ps) z ∙ o .there .place)))
+    same k l q = rw c-at at (part-same t c p (o .parent-is) (entryAt ps k) (λ z. q (sym (located-at t k l .place) ∙ ap (position ps) z ∙ o .there .place)))
 
     -- the word of the entry above is that of one entry more below it, and the others stay
     pub words-more : (g : Forest → ℕ) (read now : ℕ → ℕ) → WordsFrom ps g (suc at) read → ((k : ℕ) → k < length ps → (k ≡ over → ⊥) → now k ≡ read k) → now over ≡ g grown → WordsFrom ps g at now
@@ -161,7 +161,7 @@ module _ {ps : List ℕ} (t : OneTree ps) where
       high = words-all heightOf read (suc at) w at (omega arith) h
 
       pub rise-fits : read at ≤ mostEntries
-      rise-fits = let few = t .few in omega (arith, few, high, height-most (under ps c), family-room ps (small t) (t .tree) c (holds-at t at h .inside))
+      rise-fits = let few = t .few in omega (arith, few, high, height-most (under ps c), family-room ps (small t) (t .tree) c (located-at t at h .inside))
 
       pub taller : read over ≤ read at + 1 → (read at + 1 ≡ heightOf grown) × (at ≡ longOf ps grown)
       unfolding forestHeight tallest Option·elim

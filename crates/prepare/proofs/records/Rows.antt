@@ -32,8 +32,8 @@ use Rattle.prepare.proofs.sections.Whole.{sectioned-put, whole-table}
 
 -- what one record is filled from
 module _ {ps : List ℕ} {ladders : ℕ} {t : List ℕ} (r : Reached ps ladders t) where
-  pub depth-word : (v : ℕ) → v < length ps → getD t (4 + v) 0 ≡ depth ps v
-  depth-word v h = view-at 4 (length ps) t v (4 + v) h refl ∙ ap (λ l. getD l v 0) (r .depths) ∙ below-at (length ps) (depth ps) 0 v h
+  pub record-depth : (v : ℕ) → v < length ps → getD t (4 + v) 0 ≡ depth ps v
+  record-depth v h = view-at 4 (length ps) t v (4 + v) h refl ∙ ap (λ l. getD l v 0) (r .depths) ∙ below-at (length ps) (depth ps) 0 v h
 
   -- words behind all of it leave it
   pub reached-put : (a : ℕ) (x : List ℕ) → 4 + 3 * length ps ≤ a → ladders + 2 * length ps ≤ a → a + length x ≤ length t → Reached ps ladders (put t a x)

@@ -10,7 +10,7 @@ use Rattle.base.specs.Lists.{below}
 use Rattle.base.proofs.Lists.{below-at, each-length}
 use Rattle.tree.specs.Forest.{position}
 use Rattle.prepare.specs.Arrays.{OneTree, entryAt}
-use Rattle.prepare.proofs.Preorder.{holds-at, holds-of}
+use Rattle.prepare.proofs.Preorder.{located-at, located-of}
 
 -- the first i words of an array are those of g
 abbrev pub Ran : (ℕ → ℕ) → ℕ → List ℕ → Type 0
@@ -33,11 +33,11 @@ module _ {ps : List ℕ} (t : OneTree ps) {g : ℕ → ℕ} {i : ℕ} {cells : L
   -- one position further
   module _ (h : i < length ps) (v : ℕ) (e : v ≡ entryAt ps i) where
     pub written-room : v < length cells
-    written-room = omega (arith, e, w .room, holds-at t i h .inside)
+    written-room = omega (arith, e, w .room, located-at t i h .inside)
 
     pub written-more : (x : ℕ) → x ≡ g i → Written ps g (i + 1) (set cells v x)
     written-more x q =
-        let other : (k : ℕ) → k < i → entryAt ps k ≡ v → ⊥ = λ k l z. omega (arith, ap (position ps) (z ∙ e), holds-at t k (omega arith) .place, holds-at t i h .place) in
+        let other : (k : ℕ) → k < i → entryAt ps k ≡ v → ⊥ = λ k l z. omega (arith, ap (position ps) (z ∙ e), located-at t k (omega arith) .place, located-at t i h .place) in
         let here : getD (set cells v x) (entryAt ps i) 0 ≡ g i = ap (λ u. getD (set cells v x) u 0) (sym e) ∙ getD-set-same cells v x 0 written-room ∙ q in
         record { room = length-set cells v x ∙ w .room; words = below-more _ i (λ k l. getD-set-other cells v (entryAt ps k) x 0 (other k l) ∙ w .words k l) here }
 
@@ -46,5 +46,5 @@ module _ {ps : List ℕ} (t : OneTree ps) {g : ℕ → ℕ} {i : ℕ} {cells : L
   written-all all f same =
       ext-getD 0 cells (below (length ps) f) (w .room ∙ sym (each-length (length ps) 0 f)) (λ v h.
       let b : v < length ps = omega (arith, w .room) in
-      let there = holds-of t v b in
+      let there = located-of t v b in
       sym (ap (λ u. getD cells u 0) (there .entry)) ∙ w .words (position ps v) (omega (arith, there .low)) ∙ same v b ∙ sym (below-at (length ps) f 0 v b))

@@ -6,14 +6,14 @@ use native.Mathlib.Omega.{arith}
 use borrow.Author.Needs.{needs}
 use lib.ListN.{length, getD}
 use Rattle.base.specs.Limits.{topMark}
-use Rattle.prepare.proofs.Preorder.{Over, order-many, first-none, over-at, array-length, array-words}
+use Rattle.prepare.proofs.Preorder.{Over, order-many, no-parent, over-at, array-length, array-words}
 use Rattle.prepare.proofs.grouping.parent_word.Statement.{statement}
 use Rattle.prepare.proofs.grouping.parent_word.Tie as tie
 
 returns : tie.Need-returns
 returns c =
     let s = c .before .before in
-    rw (c .if1 .taken, first-none (s .pre .0))
+    rw (c .if1 .taken, no-parent (s .pre .0))
 
 over : (c : tie.After-shared-slice-known) → (let s = c .before .before .before .before in (p : ℕ) × Over (s .args .parents .now) (s .args .at .0) (getD (s .args .above .now) (s .args .at .0) 0) p)
 over c =

@@ -9,8 +9,8 @@ use Rattle.base.specs.Limits.{groupLimit}
 use Rattle.base.proofs.Lists.{below-at, each-length}
 use Rattle.table.specs.Groups.{kind}
 use Rattle.prepare.specs.Arrays.{entryAt}
-use Rattle.prepare.proofs.Preorder.{order-many, holds-at}
-use Rattle.prepare.proofs.jumps.Nodes.{JumpsBefore, jumps-none, jumps-all, jumps-room, jumps-macro, jumps-micro}
+use Rattle.prepare.proofs.Preorder.{order-many, located-at}
+use Rattle.prepare.proofs.jumps.Nodes.{JumpsBefore, jumps-none, jumps-all, node-room, jumps-macro, jumps-micro}
 use Rattle.prepare.proofs.jumps.jump_nodes.Statement.{statement}
 use Rattle.prepare.proofs.jumps.jump_nodes.Tie as tie
 
@@ -40,12 +40,12 @@ entry : (r : Read) → getD (loop r .before .args .order .now) (at r) 0 ≡ entr
 entry r = ap (λ l. getD l (at r) 0) (loop r .before .pre .1)
 
 inside : tie.Need-shared-slice-read-k-2 Inv-loop μ-loop
-inside r = let s = loop r .before in omega (arith, entry r, holds-at (s .pre .0) (at r) (here r) .inside, ap length (s .pre .2) ∙ each-length (length (list r)) 0 (kind groupLimit (list r)))
+inside r = let s = loop r .before in omega (arith, entry r, located-at (s .pre .0) (at r) (here r) .inside, ap length (s .pre .2) ∙ each-length (length (list r)) 0 (kind groupLimit (list r)))
 
 word : (r : Read) → getD (loop r .before .args .kind .now) (getD (loop r .before .args .order .now) (at r) 0) 0 ≡ kind groupLimit (list r) (entryAt (list r) (at r))
 word r =
     let s = loop r .before in
-    let h = holds-at (s .pre .0) (at r) (here r) .inside in
+    let h = located-at (s .pre .0) (at r) (here r) .inside in
     ap (λ l. getD l (getD (s .args .order .now) (at r) 0) 0) (s .pre .2) ∙ below-at _ (kind groupLimit (list r)) 0 _ (omega (arith, entry r, h)) ∙ ap (kind groupLimit (list r)) (entry r)
 
 loop-again : tie.Need-loop-again Inv-loop μ-loop
@@ -82,7 +82,7 @@ jump-nodes-spec =
     inside
     (λ c. search needs)
     (λ c. search needs)
-    (λ c. let r = c .before in omega (arith, jumps-room (loop r .before .pre .0) (at r) (here r) _ (word r) (c .if2 .taken), loop r .loop .inv .2))
+    (λ c. let r = c .before in omega (arith, node-room (loop r .before .pre .0) (at r) (here r) _ (word r) (c .if2 .taken), loop r .loop .inv .2))
     (λ c. search needs)
     loop-again
     (λ c. search needs)

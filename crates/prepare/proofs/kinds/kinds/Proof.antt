@@ -13,7 +13,7 @@ use Rattle.tree.specs.Forest.{size}
 use Rattle.table.specs.Groups.{micro}
 use Rattle.prepare.specs.Arrays.{entryAt}
 use Rattle.prepare.proofs.Preorder.{order-many, entries-some, array-length, array-words}
-use Rattle.prepare.proofs.kinds.Turns.{jumpsWithin, InGroup, KindsBefore, kinds-none, open-next, open-same, open-some, open-few, kinds-micro, jumps-past, jumps-within, kinds-macro, groups-end, jumps-none, jumps-end, kinds-end, size-small, word-micro, word-macro}
+use Rattle.prepare.proofs.kinds.Turns.{jumpsWithin, OpenGroup, KindsBefore, kinds-none, group-opens, group-goes-on, open-some, open-few, kinds-micro, jumps-past, jumps-within, kinds-macro, groups-all, jumps-zero, jumps-end, kinds-end, size-small, word-micro, word-macro}
 use Rattle.prepare.proofs.spread.Writes.{written-room}
 use Rattle.prepare.proofs.kinds.kinds.Statement.{statement}
 use Rattle.prepare.proofs.kinds.kinds.Tie as tie
@@ -67,15 +67,15 @@ room : (r : Read) → getD (loop r .before .args .order .now) (at r) 0 < length 
 room r = written-room (loop r .before .pre .0) (loop r .loop .inv .2 .kinds) (here r) _ (entry r)
 
 -- the group of a position of size 5 or less
-grouped : (c : tie.Joined3 Inv-loop μ-loop) → InGroup (list (c .before .before .before .before)) groupLimit (at (c .before .before .before .before)) (c .if3 .groups) (c .if3 .root .0) (c .if3 .end .0)
+grouped : (c : tie.Joined3 Inv-loop μ-loop) → OpenGroup (list (c .before .before .before .before)) groupLimit (at (c .before .before .before .before)) (c .if3 .groups) (c .if3 .root .0) (c .if3 .end .0)
 grouped c =
     let r = c .before .before .before .before in
     let t = loop r .before .pre .0 in
     let k = loop r .loop .inv .2 in
     let e = word (loop r .before) (at r) (here r) in
     ⊎-elim
-    (λ w. rw (w .2, w .3, w .4) (open-next t k (here r) (word-micro t (at r) (here r) _ e (c .before .before .before .if2 .taken)) (w .0 .taken) _ e))
-    (λ w. rw (w .1, w .2, w .3) (open-same t k (here r) (w .0 .left)))
+    (λ w. rw (w .2, w .3, w .4) (group-opens t k (here r) (word-micro t (at r) (here r) _ e (c .before .before .before .if2 .taken)) (w .0 .taken) _ e))
+    (λ w. rw (w .1, w .2, w .3) (group-goes-on t k (here r) (w .0 .left)))
     (c .if3 .came)
 
 -- its numbers
@@ -137,14 +137,14 @@ returns c =
     let s = ended (c .before) .before in
     let k = ended (c .before) .loop .inv .2 in
     let some = entries-some (s .pre .0) in
-    ((groups-end (s .pre .0) k (done (c .before)), jumps-none (s .pre .0) k (done (c .before)) (word-micro (s .pre .0) 0 some _ (word s 0 some) (c .if5 .taken))), kinds-end (s .pre .0) k (done (c .before)))
+    ((groups-all (s .pre .0) k (done (c .before)), jumps-zero (s .pre .0) k (done (c .before)) (word-micro (s .pre .0) 0 some _ (word s 0 some) (c .if5 .taken))), kinds-end (s .pre .0) k (done (c .before)))
 
 returns-2 : tie.Need-returns-2 Inv-loop μ-loop
 returns-2 c =
     let s = ended (c .before) .before in
     let k = ended (c .before) .loop .inv .2 in
     let some = entries-some (s .pre .0) in
-    ((groups-end (s .pre .0) k (done (c .before)), jumps-end (s .pre .0) k (done (c .before)) (word-macro (s .pre .0) 0 some _ (word s 0 some) (c .if5 .left))), kinds-end (s .pre .0) k (done (c .before)))
+    ((groups-all (s .pre .0) k (done (c .before)), jumps-end (s .pre .0) k (done (c .before)) (word-macro (s .pre .0) 0 some _ (word s 0 some) (c .if5 .left))), kinds-end (s .pre .0) k (done (c .before)))
 
 pub kinds-spec : {M : Type 1} → statement M
 kinds-spec =

@@ -18,6 +18,6 @@ next-place-spec =
     (λ c. search needs)
     (λ c. search needs)
     (λ c. search needs)
-    (λ c. let s = c .before .before .before .before in omega (arith, from-less (s .pre .0) (s .args .at .0) (s .pre .3) (s .pre .1), s .pre .0 .linked .walked .room))
+    (λ c. let s = c .before .before .before .before in omega (arith, from-less (s .pre .0) (s .args .at .0) (s .pre .3) (s .pre .1), s .pre .0 .parented .walked .room))
     (λ c. let s = c .before .before .before .before in omega (arith, next-small (s .pre .0) (s .args .at .0) (s .pre .3) (s .pre .1) (s .pre .2)))
     (λ c. let s = c .before .before .before .before in next-place (s .pre .0) (s .args .at .0) (s .pre .3) (s .pre .1) (s .pre .2)))

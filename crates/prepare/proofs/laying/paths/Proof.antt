@@ -50,13 +50,13 @@ top-place-requires : tie.Need-top-place-requires Inv-loop μ-loop
 top-place-requires c κs =
     let p = c .before .before in
     let b = so (p .before) in
-    (b .pathed, own p, low (p .before), omega (arith, b .rungs .size, b .pathed .linked .walked .few))
+    (b .pathed, own p, low (p .before), omega (arith, b .rungs .size, b .pathed .parented .walked .few))
 
 settle-requires : tie.Need-settle-requires Inv-loop μ-loop
 settle-requires c κs =
     let a = c .before .before .before .before in
     let p = a .before .before .before in
-    let w = so (p .before) .pathed .linked .walked in
+    let w = so (p .before) .pathed .parented .walked in
     (w .room, w .few, low (p .before), omega (arith, own p, a .top-place .ensures .0, a .top-place .ensures .1 .same))
 
 -- its place, and its height
@@ -93,7 +93,7 @@ settle-requires-2 : tie.Need-settle-requires-2 Inv-loop μ-loop
 settle-requires-2 c κs =
     let a = c .before .before in
     let p = a .before .before .before in
-    let w = so p .pathed .linked .walked in
+    let w = so p .pathed .parented .walked in
     (w .room, w .few, low p, omega (arith, a .next-place .ensures, own-room (so p) (low p)))
 
 loop-again-2 : tie.Need-loop-again-2 Inv-loop μ-loop
@@ -133,9 +133,9 @@ paths-spec =
     (λ c. search needs)
     (λ c. search needs)
     (λ c. search needs)
-    (λ c. omega (arith, laid c .settle .kept .1 .0, so (begun c .before) .pathed .linked .walked .room))
+    (λ c. omega (arith, laid c .settle .kept .1 .0, so (begun c .before) .pathed .parented .walked .room))
     add-height
-    (λ c. let p = begun c .before in omega (arith, paths-small (so p) (low p), so p .pathed .linked .walked .few))
+    (λ c. let p = begun c .before in omega (arith, paths-small (so p) (low p), so p .pathed .parented .walked .few))
     (λ c. search needs)
     loop-again
     (λ c κs. let p = c .before .before in (so p .pathed, goes (c .before), so p .placed, low p))
@@ -148,6 +148,6 @@ paths-spec =
     (λ c. omega (arith, fits c))
     (λ c. search needs)
     (λ c κs. search needs)
-    (λ c. ended c .loop .inv .1 .pathed .linked .walked .room ∙ sym (ended c .before .before .before .before .pre .0 .linked .walked .room))
+    (λ c. ended c .loop .inv .1 .pathed .parented .walked .room ∙ sym (ended c .before .before .before .before .pre .0 .parented .walked .room))
     (λ c. c .before .cells4 .given .1 ∙ ended c .loop .inv .1 .rungs .size ∙ sym (ended c .before .before .before .before .pre .1))
     returns)

@@ -6,7 +6,7 @@ use native.Mathlib.Omega.{arith}
 use borrow.Author.Needs.{needs}
 use lib.ListN.{length, getD, length-set}
 use Rattle.prepare.specs.Arrays.{entryAt, Risen}
-use Rattle.prepare.proofs.Preorder.{order-many, holds-at, array-length, array-words}
+use Rattle.prepare.proofs.Preorder.{order-many, located-at, array-length, array-words}
 use Rattle.prepare.proofs.laying.Rungs.{Climbed, climbed-none, climbed-more, risen-none, risen-more, risen-by}
 use Rattle.prepare.proofs.laying.rise.Statement.{statement}
 use Rattle.prepare.proofs.laying.rise.Tie as tie
@@ -40,7 +40,7 @@ next c =
     let s = l .before in
     let (t, e, a, b, h, m, r) = s .pre in
     let up = l .loop .inv .4 in
-    climbed-more t (array-words t _ _ a (l .loop .at .0) (up .inside)) (holds-at t (s .args .top .0) (omega (arith, all s)) .inside) (omega arith) up
+    climbed-more t (array-words t _ _ a (l .loop .at .0) (up .inside)) (located-at t (s .args .top .0) (omega (arith, all s)) .inside) (omega arith) up
 
 shared-slice-read-cells-2 : tie.Need-shared-slice-read-cells-2 Inv-loop μ-loop
 shared-slice-read-cells-2 c = omega (arith, next c .inside, all (c .before .before .before .before .before .before))

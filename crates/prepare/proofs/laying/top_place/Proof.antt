@@ -27,7 +27,7 @@ count c =
     let n = length ps in
     let (u, b, h, m) = s .pre in
     let t = tree-in u in
-    c .lesser .ensures ∙ rw (region-words t (height ps) (4 * n) _ (u .heights) _ h, region-words t (depth ps) n _ (u .linked .walked .depths) _ h)
+    c .lesser .ensures ∙ rw (region-words t (height ps) (4 * n) _ (u .heights) _ h, region-words t (depth ps) n _ (u .parented .walked .depths) _ h)
 
 rise-requires : tie.Need-rise-requires
 rise-requires c κs =
@@ -37,10 +37,10 @@ rise-requires c κs =
     let xs = s .args .space .now in
     let (u, b, h, m) = s .pre in (
       tree-in u,
-      lent 0 n n xs _ (omega arith) (u .linked .walked .orders),
-      lent (3 * n) (4 * n) n xs _ (omega arith) (u .linked .aboves),
+      lent 0 n n xs _ (omega arith) (u .parented .walked .orders),
+      lent (3 * n) (4 * n) n xs _ (omega arith) (u .parented .aboves),
       omega (arith, count e),
-      omega (arith, mid-len 0 n xs (omega (arith, u .linked .walked .room))),
+      omega (arith, mid-len 0 n xs (omega (arith, u .parented .walked .room))),
       omega arith,
       omega (arith, count e),
     )

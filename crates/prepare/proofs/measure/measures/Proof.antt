@@ -4,7 +4,7 @@ use Prim.Native.Nat.{suc, _-_, _≤_, _<_}
 use native.Mathlib.Omega.{arith}
 use borrow.Author.Needs.{needs}
 use lib.ListN.{length}
-use Rattle.prepare.proofs.measure.Turns.{MeasuredFrom, from-by, from-end, from-first, over-low, sum-small, rise-small, from-next}
+use Rattle.prepare.proofs.measure.Turns.{MeasuredFrom, measured-by, measured-none, measured-all, over-low, sum-small, rise-small, measured-next}
 use Rattle.prepare.proofs.measure.measures.Statement.{statement}
 use Rattle.prepare.proofs.measure.measures.Tie as tie
 
@@ -23,7 +23,7 @@ start l = start-of (l .before .before .before)
 loop-holds : tie.Need-loop-holds Inv-loop μ-loop
 loop-holds c =
     let a = c .before .before in
-    (omega arith, from-end (start-of a .pre) _ (a .alone .ensures))
+    (omega arith, measured-none (start-of a .pre) _ (a .alone .ensures))
 
 -- the position that a turn is at
 record Turn (t : tie.Then1 Inv-loop μ-loop) : Type 0 where
@@ -32,12 +32,12 @@ record Turn (t : tie.Then1 Inv-loop μ-loop) : Type 0 where
   from : MeasuredFrom (start (t .before .before) .args .parents .now) (suc (t .before .before .loop .end .0 - 1)) (t .before .before .loop .space)
 
 turn : (t : tie.Then1 Inv-loop μ-loop) → Turn t
-turn t = record { low = omega (arith, t .if1 .taken); high = omega (arith, t .if1 .taken, t .before .before .loop .inv .0); from = from-by (omega (arith, t .if1 .taken)) (t .before .before .loop .inv .1) }
+turn t = record { low = omega (arith, t .if1 .taken); high = omega (arith, t .if1 .taken, t .before .before .loop .inv .0); from = measured-by (omega (arith, t .if1 .taken)) (t .before .before .loop .inv .1) }
 
 count-requires : tie.Need-count-requires Inv-loop μ-loop
 count-requires c κs =
     let t = c .before .before .before .before in
-    let w = t .before .before .loop .inv .1 .linked .walked in
+    let w = t .before .before .loop .inv .1 .parented .walked in
     let u = turn t in
     let less = over-low _ (u .low) (u .high) (u .from) in
     (w .room, w .few, u .high, omega (arith, u .high, less), sum-small _ (u .low) (u .high) (u .from))
@@ -45,7 +45,7 @@ count-requires c κs =
 lift-requires : tie.Need-lift-requires Inv-loop μ-loop
 lift-requires c κs =
     let t = c .before .before .before .before .before .before .before .before in
-    let w = t .before .before .loop .inv .1 .linked .walked in
+    let w = t .before .before .loop .inv .1 .parented .walked in
     let u = turn t in
     let count = c .before .before .before .count in
     let less = over-low _ (u .low) (u .high) (u .from) in
@@ -57,12 +57,12 @@ loop-again c =
     let u = turn t in
     let count = c .before .before .before .before .before .before .count in
     let lift = c .before .before .lift in
-    (omega (arith, u .high), from-next _ (u .low) (u .high) (u .from) _ _ (count .ensures) (lift .ensures .0) (lift .ensures .1))
+    (omega (arith, u .high), measured-next _ (u .low) (u .high) (u .from) _ _ (count .ensures) (lift .ensures .0) (lift .ensures .1))
 
 returns : tie.Need-returns Inv-loop μ-loop
 returns c =
     let l = c .before .before .loop in
-    from-first (l .end .0) (omega (arith, c .if1 .left)) (l .inv .1)
+    measured-all (l .end .0) (omega (arith, c .if1 .left)) (l .inv .1)
 
 pub measures-spec : {M : Type 1} → statement M
 measures-spec =
@@ -83,5 +83,5 @@ measures-spec =
     lift-requires
     (λ c. search needs)
     loop-again
-    (λ c. c .before .before .loop .inv .1 .linked .walked .room ∙ sym (start (c .before .before) .pre .walked .room))
+    (λ c. c .before .before .loop .inv .1 .parented .walked .room ∙ sym (start (c .before .before) .pre .walked .room))
     returns)

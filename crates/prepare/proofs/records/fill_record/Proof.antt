@@ -7,7 +7,7 @@ use lib.ListN.{length}
 use Rattle.base.specs.Limits.{groupLimit, recordWords}
 use Rattle.base.proofs.Puts.{lent-back, lent}
 use Rattle.climbs.proofs.RecordWords.{jump-wide}
-use Rattle.prepare.proofs.records.Rows.{depth-word}
+use Rattle.prepare.proofs.records.Rows.{record-depth}
 use Rattle.prepare.proofs.records.fill_record.Statement.{statement}
 use Rattle.prepare.proofs.records.fill_record.Tie as tie
 
@@ -18,7 +18,7 @@ record-requires c κs =
     let t = s .args .table .now in
     let l = s .args .ladders in
     let r = s .pre .0 in
-    (r .one, lent (4 + 2 * n) (4 + 2 * n + n) n t _ refl (r .places), lent l (l + 2 * n) (2 * n) t _ refl (r .rungs), s .pre .1, depth-word r (s .args .v .0) (s .pre .1))
+    (r .one, lent (4 + 2 * n) (4 + 2 * n + n) n t _ refl (r .places), lent l (l + 2 * n) (2 * n) t _ refl (r .rungs), s .pre .1, record-depth r (s .args .v .0) (s .pre .1))
 
 returns : tie.Need-returns
 returns c =

@@ -4,7 +4,7 @@ use native.Mathlib.Omega.{arith}
 use borrow.Author.Needs.{needs}
 use borrow.Rule.Slice.PartMut.{mid-len}
 use lib.ListN.{length}
-use Rattle.prepare.proofs.Space.{tree-of, linked-of, depths-of}
+use Rattle.prepare.proofs.Space.{tree-of, parented-of, depths-of}
 use Rattle.prepare.proofs.regions.measure.Statement.{statement}
 use Rattle.prepare.proofs.regions.measure.Tie as tie
 
@@ -23,7 +23,7 @@ above-requires c κs =
 measures-requires : tie.Need-measures-requires
 measures-requires c κs =
     let o = c .before .before .before in
-    linked-of (o .before .before .before .before .before .before .before .before .before .before .before .before .pre .0) _ (o .above .ensures)
+    parented-of (o .before .before .before .before .before .before .before .before .before .before .before .before .pre .0) _ (o .above .ensures)
 
 pub measure-spec : {M : Type 1} → statement M
 measure-spec =

@@ -23,7 +23,7 @@ returns c =
     let second : b .by-entry .last .1 .1 .1 .0 ≡ put (put t (4 + n) (kindsOf ps)) (4 + 5 * n) (below n (size ps))
     = b .by-entry .ensures (size ps) (s .pre .0 .sizes) ∙ ap (λ l. put l (4 + 5 * n) (below n (size ps))) (k .kind-section .ensures .1) in
     let third = c .before .before .group-section .ensures ∙ ap (λ l. put l (4 + 8 * n) (groupCells ps)) second in
-    (k .kind-section .ensures .0, rw third (familied ps t (tree-of (s .pre .0 .pathed .linked .walked)) (s .pre .1)))
+    (k .kind-section .ensures .0, rw third (familied ps t (tree-of (s .pre .0 .pathed .parented .walked)) (s .pre .1)))
 
 pub family-sections-spec : {M : Type 1} → statement M
 family-sections-spec =

@@ -15,7 +15,7 @@ groups-requires c κs =
     let s = c .before .before .before .before .before .before .before .before in
     let n = length (s .args .parents .now) in
     let xs = s .args .space .now in
-    let d = s .pre .0 .pathed .linked in (
+    let d = s .pre .0 .pathed .parented in (
       tree-of (d .walked),
       lent 0 n n xs _ (omega arith) (d .walked .orders),
       lent n (2 * n) n xs _ (omega arith) (d .walked .depths),

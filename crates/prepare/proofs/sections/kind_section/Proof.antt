@@ -14,7 +14,7 @@ kinds-requires c κs =
     let s = c .before .before .before .before .before .before in
     let n = length (s .args .parents .now) in
     let xs = s .args .space .now in
-    let w = s .pre .0 .pathed .linked .walked in (
+    let w = s .pre .0 .pathed .parented .walked in (
       tree-of w,
       lent 0 n n xs _ (omega arith) (w .orders),
       lent (2 * n) (3 * n) n xs _ (omega arith) (s .pre .0 .sizes),

@@ -18,7 +18,7 @@ returns c =
     let n = length ps in
     let (paths, laid-so) = k .ladder-section .ensures in
     let laid = c .before .before .by-entry .ensures (ladPos ps) (laid-so .0 .places) ∙ ap (λ l. put l (4 + 2 * n) (below n (ladPos ps))) (laid-so .1) in
-    let w = laid-so .0 .pathed .linked .walked in
+    let w = laid-so .0 .pathed .parented .walked in
     (paths, (w, rw laid (laddered ps (s .args .table .now) (tree-of w) (s .pre .1) (s .pre .2))))
 
 pub path-sections-spec : {M : Type 1} → statement M

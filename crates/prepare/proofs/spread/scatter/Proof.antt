@@ -6,7 +6,7 @@ use borrow.Author.Needs.{needs}
 use lib.ListN.{length, getD}
 use Rattle.tree.specs.Forest.{position}
 use Rattle.prepare.specs.Arrays.{entryAt}
-use Rattle.prepare.proofs.Preorder.{order-many, holds-of, array-words}
+use Rattle.prepare.proofs.Preorder.{order-many, located-of, array-words}
 use Rattle.prepare.proofs.spread.Writes.{Written, written-none, written-room, written-more, written-all}
 use Rattle.prepare.proofs.spread.scatter.Statement.{statement}
 use Rattle.prepare.proofs.spread.scatter.Tie as tie
@@ -35,7 +35,7 @@ returns : tie.Need-returns Inv-loop μ-loop
 returns c f e =
     let l = c .before .before in
     let t = l .before .pre .0 in
-    written-all t (l .loop .inv .2) (omega (arith, c .if1 .left)) f (λ v h. let there = holds-of t v h in array-words t f _ e (position _ v) (there .low) ∙ ap f (there .entry))
+    written-all t (l .loop .inv .2) (omega (arith, c .if1 .left)) f (λ v h. let there = located-of t v h in array-words t f _ e (position _ v) (there .low) ∙ ap f (there .entry))
 
 pub scatter-spec : {M : Type 1} → statement M
 scatter-spec =
