@@ -7,6 +7,7 @@ use lib.Dec.{eqb, ltb, leb}
 use Rattle.base.specs.Lists.{has}
 use Rattle.base.specs.Limits.{tableWords, spaceWords}
 use Rattle.lines.specs.Text.{lineFeed}
+use Rattle.lines.specs.Texts.{rowRoom}
 use Rattle.lines.specs.Counter.{mostListed, badLine}
 use Rattle.lines.specs.Stages.{Stage, counting, parenting, asking, ended, mostBytes}
 use Rattle.counter_stream.specs.declared.phases.Phase.{Phase}
@@ -86,9 +87,6 @@ endingAt AtEnd st = []
 abbrev pub ending : State → List ℕ
 ending st = endingAt (st .phase) st
 
--- a row has at most 64 bytes: with less room nothing is printed
-abbrev pub rowRoom : ℕ
-rowRoom = 64
-
+-- with no room for a row nothing is printed
 abbrev pub lastText : State → ℕ → List ℕ
 lastText st room = cond (leb rowRoom room) (ending st) []

@@ -9,7 +9,8 @@ use Rattle.lines.specs.Text.{lineFeed}
 use Rattle.lines.specs.Stages.{remaining, mostBytes}
 use Rattle.counter_stream.specs.declared.phases.State.{State}
 use Rattle.counter_stream.specs.declared.pieces.Progress.{Progress}
-use Rattle.counter_stream.specs.Fitness.{Lent, heldBytes, phaseFits, stageWith, mostLine, beginning, ending, rowRoom}
+use Rattle.lines.specs.Texts.{rowRoom}
+use Rattle.counter_stream.specs.Fitness.{Lent, heldBytes, phaseFits, stageWith, mostLine, beginning, ending}
 use Rattle.counter_stream.specs.Lines.{ListRoom}
 
 -- room for the longest line and the longest list

@@ -6,7 +6,7 @@ ghost use Prim.Native.Nat.{_+_, _<_, _≤_};
 ghost use lib.Dec.{eqb};
 ghost use lib.ListN.{length};
 ghost use Rattle.lines.specs.Text.{comma, dash, decimal};
-ghost use Rattle.lines.specs.Texts.{said};
+ghost use Rattle.lines.specs.Texts.{said, rowRoom};
 ghost use Rattle.lines.specs.Counter.{badLine, badList, headerRow, replyRow};
 use crate::room::ROW_ROOM;
 use base::Node;
@@ -20,7 +20,7 @@ pub struct Text {
 
 // `line,` and the number of a bad line.
 pub fn bad_line(k: u64) -> Text
-    ensures { λ r. ⌜ (r .count ≤ 64) × (said (r .bytes) (r .count) ≡ badLine k) ⌝ }
+    ensures { λ r. ⌜ (r .count ≤ rowRoom) × (said (r .bytes) (r .count) ≡ badLine k) ⌝ }
 {
     let start = with_bytes(nothing(), b"line,");
     with_byte(with_number(start, k), b'\n')
@@ -28,7 +28,7 @@ pub fn bad_line(k: u64) -> Text
 
 // `list,` and the number and the name of a refused list.
 pub fn bad_list(number: u32, word: u32) -> Text
-    ensures { λ r. ⌜ (r .count ≤ 64) × (said (r .bytes) (r .count) ≡ badList (record { number = number; word = word })) ⌝ }
+    ensures { λ r. ⌜ (r .count ≤ rowRoom) × (said (r .bytes) (r .count) ≡ badList (record { number = number; word = word })) ⌝ }
 {
     let start = with_bytes(nothing(), b"list,");
     with_field(with_field(start, number, b','), word, b'\n')
@@ -36,14 +36,14 @@ pub fn bad_list(number: u32, word: u32) -> Text
 
 // `entry,depth,refusal,class,cells`.
 pub fn header_row() -> Text
-    ensures { λ r. ⌜ (r .count ≤ 64) × (said (r .bytes) (r .count) ≡ headerRow) ⌝ }
+    ensures { λ r. ⌜ (r .count ≤ rowRoom) × (said (r .bytes) (r .count) ≡ headerRow) ⌝ }
 {
     with_bytes(nothing(), b"entry,depth,refusal,class,cells\n")
 }
 
 // A question's row: entry, depth, refusal, class or `-`, count of cells.
 pub fn reply_row(v: Node, d: u32, number: u32, word: u32, cells: u32) -> Text
-    ensures { λ r. ⌜ (r .count ≤ 64) × (said (r .bytes) (r .count) ≡ replyRow (v .0) d number word cells) ⌝ }
+    ensures { λ r. ⌜ (r .count ≤ rowRoom) × (said (r .bytes) (r .count) ≡ replyRow (v .0) d number word cells) ⌝ }
 {
     let start = nothing();
     let asked = with_field(with_field(start, v.0, b','), d, b',');
@@ -54,7 +54,7 @@ pub fn reply_row(v: Node, d: u32, number: u32, word: u32, cells: u32) -> Text
 
 // The text with a class and a comma behind it: `-` for a refusal.
 fn with_class(text: Text, number: u32, word: u32) -> Text
-    requires { ⌜ text .count + 11 ≤ 64 ⌝ }
+    requires { ⌜ text .count + 11 ≤ rowRoom ⌝ }
     ensures { λ r. ⌜ (r .count ≤ text .count + 11) × (said (r .bytes) (r .count) ≡ said (text .bytes) (text .count) ++ (cond (eqb number 0) (decimal word) (dash ∷ []) ++ comma ∷ [])) ⌝ }
 {
     if number == ACCEPTED {
@@ -65,7 +65,7 @@ fn with_class(text: Text, number: u32, word: u32) -> Text
 
 // The text with a number and a byte behind it.
 fn with_field(text: Text, x: u32, end: u8) -> Text
-    requires { ⌜ text .count + 11 ≤ 64 ⌝ }
+    requires { ⌜ text .count + 11 ≤ rowRoom ⌝ }
     ensures { λ r. ⌜ (r .count ≤ text .count + 11) × (said (r .bytes) (r .count) ≡ said (text .bytes) (text .count) ++ (decimal x ++ end ∷ [])) ⌝ }
 {
     with_byte(with_number(text, x as u64), end)
@@ -73,7 +73,7 @@ fn with_field(text: Text, x: u32, end: u8) -> Text
 
 // The text with a number behind it, in decimal: the digits before the last by a call of itself, at most twenty calls deep.
 fn with_number(text: Text, x: u64) -> Text
-    requires { ⌜ text .count + length (decimal x) ≤ 64 ⌝ }
+    requires { ⌜ text .count + length (decimal x) ≤ rowRoom ⌝ }
     ensures { λ r. ⌜ (r .count ≡ text .count + length (decimal x)) × (said (r .bytes) (r .count) ≡ said (text .bytes) (text .count) ++ decimal x) ⌝ }
 {
     if x < 10 {
@@ -85,7 +85,7 @@ fn with_number(text: Text, x: u64) -> Text
 
 // The text with other bytes behind it.
 fn with_bytes(text: Text, more: &[u8]) -> Text
-    requires { ⌜ text .count + length (now more) ≤ 64 ⌝ }
+    requires { ⌜ text .count + length (now more) ≤ rowRoom ⌝ }
     ensures { λ r. ⌜ (r .count ≡ text .count + length (now (more .entry))) × (said (r .bytes) (r .count) ≡ said (text .bytes) (text .count) ++ now (more .entry)) ⌝ }
 {
     let mut r = text;
@@ -99,7 +99,7 @@ fn with_bytes(text: Text, more: &[u8]) -> Text
 
 // The text with a byte behind it.
 fn with_byte(text: Text, b: u8) -> Text
-    requires { ⌜ text .count < 64 ⌝ }
+    requires { ⌜ text .count < rowRoom ⌝ }
     ensures { λ r. ⌜ (r .count ≡ text .count + 1) × (said (r .bytes) (r .count) ≡ said (text .bytes) (text .count) ++ b ∷ []) ⌝ }
 {
     let mut r = text;

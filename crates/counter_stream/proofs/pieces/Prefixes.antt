@@ -6,7 +6,8 @@ use native.Mathlib.Omega.{arith}
 use lib.ListN.{length, take, getD, length-take}
 use lib.Seq.{take-suc}
 use Rattle.counter_stream.specs.declared.phases.State.{State}
-use Rattle.counter_stream.specs.Fitness.{Lent, rowRoom}
+use Rattle.lines.specs.Texts.{rowRoom}
+use Rattle.counter_stream.specs.Fitness.{Lent}
 use Rattle.counter_stream.specs.Pieces.{StateFits, Ready, Fed, ByteFed, Counted}
 use Rattle.counter_stream.proofs.Bytes.{fed-none}
 use Rattle.counter_stream.proofs.Theorems.{fed-join}
