@@ -68,8 +68,7 @@ walked-of ps space few tree room o =
     let long = mid-len 0 m space room in
     let front : (a : ℕ) → a + length ps ≤ m → view a (length ps) (midOf 0 (m - 0) space) ≡ view a (length ps) space = λ a h. sym (view-front a (length ps) (midOf 0 (m - 0) space) (postOf 0 (m - 0) space) (omega arith)) ∙ ap (view a (length ps)) (put-same 0 (m - 0) space) in
     record {
-      few = few;
-      tree = tree;
+      one = record { few = few; tree = tree };
       room = long ∙ omega arith;
       orders = front 0 (omega arith) ∙ o .orders;
       depths = front (length ps) (omega arith) ∙ o .depths;

@@ -10,14 +10,11 @@ use Rattle.base.specs.Lists.{view, put}
 use Rattle.base.proofs.Puts.{lent-back, put-length, put-view, lent, Apart, stays, set-put}
 use Rattle.base.proofs.Views.{view-at}
 use Rattle.tree.specs.Parents.{depth}
-use Rattle.prepare.specs.Arrays.{OneTree, entryAt, depthsOf, abovesOf}
+use Rattle.prepare.specs.Arrays.{entryAt, depthsOf, abovesOf}
 use Rattle.prepare.specs.Stages.{Walked, Parented, Pathed}
 use Rattle.prepare.proofs.Preorder.{array-length}
 
 module _ {ps space : List ℕ} (w : Walked ps space) where
-  pub tree-of : OneTree ps
-  tree-of = record { few = w .few; tree = w .tree }
-
   -- region 0
   pub entry-word : (i : ℕ) → i < length ps → getD space i 0 ≡ entryAt ps i
   entry-word i h = view-at 0 (length ps) space i i h (omega arith) ∙ ap (λ l. getD l i 0) (w .orders)
@@ -30,8 +27,7 @@ module _ {ps space : List ℕ} (a : ℕ) (x : List ℕ) (low : 2 * length ps ≤
 
     pub walked-put : Walked ps (put space a x)
     walked-put = record {
-      few = w .few;
-      tree = w .tree;
+      one = w .one;
       room = put-length space a x fits ∙ w .room;
       orders = stays space a x fits 0 (length ps) (inl (omega arith)) ∙ w .orders;
       depths = stays space a x fits (length ps) (length ps) (inl (omega arith)) ∙ w .depths;
@@ -64,11 +60,11 @@ module _ {ps space : List ℕ} (w : Walked ps space) where
 
   pub parented-of : (x : List ℕ) → x ≡ abovesOf ps → Parented ps (putMid (3 * n) (4 * n - 3 * n) space x)
   parented-of x e =
-      let wide = array-length (tree-of w) _ x e in
+      let wide = array-length (w .one) _ x e in
       rw (lent-back (3 * n) (4 * n) space x x refl (omega arith))
       (record { walked = walked-put (3 * n) x (omega arith) (omega arith) w; aboves = put-view space (3 * n) x (omega (arith, w .room)) n wide ∙ e })
 
   pub depths-of : (table new : List ℕ) → 4 + n ≤ length table → new ≡ put table 4 (view n n space) → midOf 4 (4 + n - 4) new ≡ depthsOf ps
   depths-of table new room e =
-      let wide = array-length (tree-of w) (depth ps) (depthsOf ps) refl in
+      let wide = array-length (w .one) (depth ps) (depthsOf ps) refl in
       lent 4 (4 + n) n new _ (omega arith) (ap (view 4 n) (e ∙ ap (put table 4) (w .depths)) ∙ put-view table 4 (depthsOf ps) (omega arith) n wide)

@@ -5,18 +5,16 @@ use mathlib.Core.List.{List}
 use Prim.Native.Nat.{ℕ, _+_, _*_, _≤_}
 use lib.ListN.{length}
 use Rattle.base.specs.Lists.{below, view}
-use Rattle.base.specs.Limits.{mostEntries, spaceWords, depthStart, kindStart, ladposStart, orderStart, preStart, sizeStart, laddersStart, groupsStart}
+use Rattle.base.specs.Limits.{spaceWords, depthStart, kindStart, ladposStart, orderStart, preStart, sizeStart, laddersStart, groupsStart}
 use Rattle.tree.specs.Parents.{depth}
 use Rattle.tree.specs.Forest.{size, height, order, position}
-use Rattle.tree.specs.Faults.{Tree}
 use Rattle.table.specs.Ladders.{ladPos}
 use Rattle.table.specs.Table.{ladderCells, groupCells}
 use Rattle.prepare.specs.Arrays.{OneTree, byPosition, depthsOf, sizesOf, abovesOf, longPosition, kindsOf}
 
 -- regions 0 and 1: the preorder and the depths of a list that forms one tree
 pub record Walked (ps space : List ℕ) : Type 0 where
-  pub few : length ps ≤ mostEntries
-  pub tree : Tree ps
+  pub one : OneTree ps
   pub room : length space ≡ spaceWords (length ps)
   pub orders : view 0 (length ps) space ≡ order ps
   pub depths : view (length ps) (length ps) space ≡ depthsOf ps

@@ -16,14 +16,13 @@ use Rattle.climbs.proofs.Room.{ladders-fit}
 use Rattle.prepare.specs.Arrays.{OneTree, entryAt, abovePosition, longPosition}
 use Rattle.prepare.specs.Stages.{Pathed}
 use Rattle.prepare.proofs.Preorder.{Over, small, entries-some, located-at, located-of, no-parent, over-of, over-at, region-words}
-use Rattle.prepare.proofs.Space.{tree-of}
 
 module _ {ps space : List ℕ} (u : Pathed ps space) where
   abbrev n : ℕ
   n = length ps
 
   pub tree-in : OneTree ps
-  tree-in = tree-of (u .parented .walked)
+  tree-in = u .parented .walked .one
 
   little : n ≤ topMark
   little = small tree-in

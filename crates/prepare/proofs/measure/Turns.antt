@@ -16,7 +16,7 @@ use Rattle.tree.specs.Forest.{forestSize, forestHeight, tallest, size, height}
 use Rattle.prepare.specs.Arrays.{OneTree, abovePosition, longPosition}
 use Rattle.prepare.specs.Stages.{Parented, Measured}
 use Rattle.prepare.proofs.Preorder.{Over, over-at, region-words, words-region}
-use Rattle.prepare.proofs.Space.{tree-of, parented-put, parented-set}
+use Rattle.prepare.proofs.Space.{parented-put, parented-set}
 use Rattle.prepare.proofs.measure.Subforests.{WordsFrom, sizeOf, heightOf, longOf, words-none, words-all, words-more, sum-is, sum-fits, rise-fits, taller, shorter}
 
 -- what is below each entry from position i on is measured in the space
@@ -38,7 +38,7 @@ pub measured-none : {ps old : List ℕ} (d : Parented ps old) (space : List ℕ)
 unfolding forestSize forestHeight tallest Option·elim
 measured-none {ps} {old} d space q =
     let n = length ps in
-    let t = tree-of (d .walked) in
+    let t = d .walked .one in
     let ones = replicate {A = ℕ} n 1 in
     let tops = replicate {A = ℕ} n topMark in
     let wide = length-replicate {A = ℕ} n 1 in
@@ -62,7 +62,7 @@ pub measured-all : {ps space : List ℕ} (i : ℕ) → i ≤ 1 → MeasuredFrom 
 unfolding longPosition
 measured-all {ps} {space} i b m =
     let n = length ps in
-    let t = tree-of (m .parented .walked) in
+    let t = m .parented .walked .one in
     let room = m .parented .walked .room in
     record {
       pathed = record {
@@ -79,7 +79,7 @@ module _ {ps space : List ℕ} (at : ℕ) (b : 0 < at) (h : at < length ps) (m :
   n = length ps
 
   t : OneTree ps
-  t = tree-of (m .parented .walked)
+  t = m .parented .walked .one
 
   wide : length space ≡ 6 * n
   wide = m .parented .walked .room

@@ -4,7 +4,6 @@ use native.Mathlib.Omega.{arith}
 use borrow.Author.Needs.{needs}
 use lib.ListN.{length}
 use Rattle.base.specs.Limits.{tableWords}
-use Rattle.prepare.proofs.Space.{tree-of}
 use Rattle.prepare.proofs.records.Rows.{finished}
 use Rattle.prepare.proofs.filling.fill_table.Statement.{statement}
 use Rattle.prepare.proofs.filling.fill_table.Tie as tie
@@ -47,7 +46,7 @@ jump-section-requires c κs =
 header-cells-requires : tie.Need-header-cells-requires
 header-cells-requires c κs =
     let j = c .before .before .before .before .before in
-    (path j .path-sections .ensures .1 .0 .few, omega (arith, j .jump-section .kept .1 .1 .0, wide (ordered j)))
+    (path j .path-sections .ensures .1 .0 .one .few, omega (arith, j .jump-section .kept .1 .1 .0, wide (ordered j)))
 
 abbrev laid : tie.After-slice-known11 → tie.After-jump-section
 laid c = c .before .before .before .before .before .before .before .before
@@ -58,7 +57,7 @@ returns c =
     let o = ordered j in
     let (counts, rest) = family (path j) .family-sections .ensures in
     let p = path j .path-sections in
-    finished (tree-of (p .ensures .1 .0)) (o .order-sections .ensures) (wide o) _ _ _ _ _ (counts .1) (counts .0) (p .ensures .0) (j .jump-section .ensures) (c .before .before .header-cells .ensures)
+    finished (p .ensures .1 .0 .one) (o .order-sections .ensures) (wide o) _ _ _ _ _ (counts .1) (counts .0) (p .ensures .0) (j .jump-section .ensures) (c .before .before .header-cells .ensures)
 
 pub fill-table-spec : {M : Type 1} → statement M
 fill-table-spec =

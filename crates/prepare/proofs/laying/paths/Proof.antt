@@ -50,14 +50,14 @@ top-place-requires : tie.Need-top-place-requires Inv-loop μ-loop
 top-place-requires c κs =
     let p = c .before .before in
     let b = so (p .before) in
-    (b .pathed, own p, low (p .before), omega (arith, b .rungs .size, b .pathed .parented .walked .few))
+    (b .pathed, own p, low (p .before), omega (arith, b .rungs .size, b .pathed .parented .walked .one .few))
 
 settle-requires : tie.Need-settle-requires Inv-loop μ-loop
 settle-requires c κs =
     let a = c .before .before .before .before in
     let p = a .before .before .before in
     let w = so (p .before) .pathed .parented .walked in
-    (w .room, w .few, low (p .before), omega (arith, own p, a .top-place .ensures .0, a .top-place .ensures .1 .same))
+    (w .room, w .one .few, low (p .before), omega (arith, own p, a .top-place .ensures .0, a .top-place .ensures .1 .same))
 
 -- its place, and its height
 abbrev laid : tie.After-slice-known6 Inv-loop μ-loop → tie.After-settle Inv-loop μ-loop
@@ -94,7 +94,7 @@ settle-requires-2 c κs =
     let a = c .before .before in
     let p = a .before .before .before in
     let w = so p .pathed .parented .walked in
-    (w .room, w .few, low p, omega (arith, a .next-place .ensures, own-room (so p) (low p)))
+    (w .room, w .one .few, low p, omega (arith, a .next-place .ensures, own-room (so p) (low p)))
 
 loop-again-2 : tie.Need-loop-again-2 Inv-loop μ-loop
 loop-again-2 c =
@@ -135,7 +135,7 @@ paths-spec =
     (λ c. search needs)
     (λ c. omega (arith, laid c .settle .kept .1 .0, so (begun c .before) .pathed .parented .walked .room))
     add-height
-    (λ c. let p = begun c .before in omega (arith, paths-small (so p) (low p), so p .pathed .parented .walked .few))
+    (λ c. let p = begun c .before in omega (arith, paths-small (so p) (low p), so p .pathed .parented .walked .one .few))
     (λ c. search needs)
     loop-again
     (λ c κs. let p = c .before .before in (so p .pathed, goes (c .before), so p .placed, low p))

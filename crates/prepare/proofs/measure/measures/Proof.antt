@@ -40,7 +40,7 @@ count-requires c κs =
     let w = t .before .before .loop .inv .1 .parented .walked in
     let u = turn t in
     let less = over-low _ (u .low) (u .high) (u .from) in
-    (w .room, w .few, u .high, omega (arith, u .high, less), sum-small _ (u .low) (u .high) (u .from))
+    (w .room, w .one .few, u .high, omega (arith, u .high, less), sum-small _ (u .low) (u .high) (u .from))
 
 lift-requires : tie.Need-lift-requires Inv-loop μ-loop
 lift-requires c κs =
@@ -49,7 +49,7 @@ lift-requires c κs =
     let u = turn t in
     let count = c .before .before .before .count in
     let less = over-low _ (u .low) (u .high) (u .from) in
-    (count .kept .1 .0 ∙ w .room, w .few, u .high, omega (arith, u .high, less), rw (count .ensures) (rise-small _ (u .low) (u .high) (u .from)))
+    (count .kept .1 .0 ∙ w .room, w .one .few, u .high, omega (arith, u .high, less), rw (count .ensures) (rise-small _ (u .low) (u .high) (u .from)))
 
 loop-again : tie.Need-loop-again Inv-loop μ-loop
 loop-again c =
@@ -70,8 +70,8 @@ measures-spec =
     (tie.spec
     Inv-loop
     μ-loop
-    (λ c κs. let w = c .before .before .before .pre .walked in (w .room, w .few))
-    (λ c. let w = start-of (c .before .before) .pre .walked in omega (arith, w .few))
+    (λ c κs. let w = c .before .before .before .pre .walked in (w .room, w .one .few))
+    (λ c. let w = start-of (c .before .before) .pre .walked in omega (arith, w .one .few))
     loop-holds
     (λ c. search needs)
     (λ c. search needs)

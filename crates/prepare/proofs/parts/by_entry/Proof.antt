@@ -6,7 +6,6 @@ use borrow.Author.Needs.{needs}
 use borrow.Rule.Slice.PartMut.{mid-len}
 use lib.ListN.{length}
 use Rattle.base.proofs.Puts.{lent, came-back}
-use Rattle.prepare.proofs.Space.{tree-of}
 use Rattle.prepare.proofs.parts.by_entry.Statement.{statement}
 use Rattle.prepare.proofs.parts.by_entry.Tie as tie
 
@@ -16,7 +15,7 @@ scatter-requires c κs =
     let n = length (s .args .parents .now) in
     let xs = s .args .space .now in
     let w = s .pre .0 in (
-      tree-of w,
+      w .one,
       lent 0 n n xs _ (omega arith) (w .orders),
       mid-len (s .args .region) (s .args .region + n) xs (omega (arith, w .room)) ∙ omega arith,
       mid-len (s .args .a) (s .args .a + n) (s .args .table .now) (s .pre .2) ∙ omega arith,

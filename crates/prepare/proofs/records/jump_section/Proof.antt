@@ -8,7 +8,6 @@ use lib.ListN.{length}
 use Rattle.base.specs.Limits.{groupLimit}
 use Rattle.base.proofs.Puts.{lent}
 use Rattle.table.specs.Groups.{jumpNodes}
-use Rattle.prepare.proofs.Space.{tree-of}
 use Rattle.prepare.proofs.records.Rows.{nodes-few, nodes-lent, zeros-put, ready, jumps-laid}
 use Rattle.prepare.proofs.records.jump_section.Statement.{statement}
 use Rattle.prepare.proofs.records.jump_section.Tie as tie
@@ -22,7 +21,7 @@ jump-nodes-requires c κs =
     let n = length (s .args .parents .now) in
     let t = s .args .table .now in
     let w = s .pre .0 in (
-      tree-of w,
+      w .one,
       lent (4 + 3 * n) (4 + 4 * n) n t _ (omega arith) (s .pre .1 .orders),
       lent (4 + n) (4 + 2 * n) n t _ (omega arith) (s .pre .1 .families .kinds),
       mid-len (2 * n) (3 * n) (s .args .space .now) (omega (arith, w .room)) ∙ omega arith,
@@ -33,7 +32,7 @@ nodes : (j : tie.After-jump-nodes) → (let s = start j in let n = length (s .ar
     midOf (2 * n) (2 * n + s .args .jumps - 2 * n) (putMid (2 * n) (3 * n - 2 * n) (s .args .space .now) (j .jump-nodes .last .1 .1 .1 .0)) ≡ jumpNodes groupLimit (s .args .parents .now))
 nodes j =
     let s = start j in
-    nodes-lent (tree-of (s .pre .0)) (s .pre .1) (s .pre .2) (s .args .space .now) _ (s .args .jumps) (s .pre .0 .room) (j .jump-nodes .kept .1 .1 .1 .0) (s .pre .3) (j .jump-nodes .ensures)
+    nodes-lent (s .pre .0 .one) (s .pre .1) (s .pre .2) (s .args .space .now) _ (s .args .jumps) (s .pre .0 .room) (j .jump-nodes .kept .1 .1 .1 .0) (s .pre .3) (j .jump-nodes .ensures)
 
 part-records-end : tie.Need-part-records-end
 part-records-end c =
@@ -41,14 +40,14 @@ part-records-end c =
     let s = start j in
     let n = length (s .args .parents .now) in
     let w = s .pre .0 in
-    omega (arith, w .room, s .pre .3, nodes-few (tree-of w) (s .pre .1) (s .pre .2) .1, same-len-mid (2 * n) (3 * n - 2 * n) (s .args .space .now) (j .jump-nodes .last .1 .1 .1 .0) (j .jump-nodes .kept .1 .1 .1 .0))
+    omega (arith, w .room, s .pre .3, nodes-few (w .one) (s .pre .1) (s .pre .2) .1, same-len-mid (2 * n) (3 * n - 2 * n) (s .args .space .now) (j .jump-nodes .last .1 .1 .1 .0) (j .jump-nodes .kept .1 .1 .1 .0))
 
 records-requires : tie.Need-records-requires
 records-requires c κs =
     let z = c .before .before .before .before .before in
     let j = z .before .before .before .before in
     let s = start j in
-    let w = tree-of (s .pre .0) in
+    let w = s .pre .0 .one in
     ready w (s .pre .1) (s .pre .2) _ _ (zeros-put w (s .pre .1) (s .pre .2) (z .set-all .last .0) (z .set-all .ensures)) (nodes j)
 
 returns : tie.Need-returns
@@ -56,7 +55,7 @@ returns c =
     let z = c .before .before .before .before .before .before .before .before in
     let j = z .before .before .before .before in
     let s = start j in
-    let w = tree-of (s .pre .0) in
+    let w = s .pre .0 .one in
     jumps-laid w (s .pre .1) (s .pre .2) _ _ _ (zeros-put w (s .pre .1) (s .pre .2) (z .set-all .last .0) (z .set-all .ensures)) (nodes j) (c .before .before .records .ensures)
 
 pub jump-section-spec : {M : Type 1} → statement M

@@ -4,7 +4,7 @@ use native.Mathlib.Omega.{arith}
 use borrow.Author.Needs.{needs}
 use borrow.Rule.Slice.PartMut.{mid-len}
 use lib.ListN.{length}
-use Rattle.prepare.proofs.Space.{tree-of, parented-of, depths-of}
+use Rattle.prepare.proofs.Space.{parented-of, depths-of}
 use Rattle.prepare.proofs.regions.measure.Statement.{statement}
 use Rattle.prepare.proofs.regions.measure.Tie as tie
 
@@ -15,7 +15,7 @@ above-requires c κs =
     let n = length (s .args .parents .now) in
     let w = s .pre .0 in
     let t = k .carry .last .1 .1 .0 in (
-      tree-of w,
+      w .one,
       depths-of w (s .args .table .now) t (omega (arith, s .pre .1)) (k .carry .ensures),
       omega (arith, mid-len (3 * n) (4 * n) (s .args .space .now) (omega (arith, w .room)), mid-len 4 (4 + n) t (omega (arith, s .pre .1, k .carry .kept .1 .1 .0))),
     )

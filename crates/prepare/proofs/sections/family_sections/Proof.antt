@@ -7,7 +7,6 @@ use Rattle.base.specs.Lists.{below, put}
 use Rattle.tree.specs.Forest.{size}
 use Rattle.table.specs.Table.{groupCells}
 use Rattle.prepare.specs.Arrays.{kindsOf}
-use Rattle.prepare.proofs.Space.{tree-of}
 use Rattle.prepare.proofs.sections.Whole.{familied}
 use Rattle.prepare.proofs.sections.family_sections.Statement.{statement}
 use Rattle.prepare.proofs.sections.family_sections.Tie as tie
@@ -23,7 +22,7 @@ returns c =
     let second : b .by-entry .last .1 .1 .1 .0 ≡ put (put t (4 + n) (kindsOf ps)) (4 + 5 * n) (below n (size ps))
     = b .by-entry .ensures (size ps) (s .pre .0 .sizes) ∙ ap (λ l. put l (4 + 5 * n) (below n (size ps))) (k .kind-section .ensures .1) in
     let third = c .before .before .group-section .ensures ∙ ap (λ l. put l (4 + 8 * n) (groupCells ps)) second in
-    (k .kind-section .ensures .0, rw third (familied ps t (tree-of (s .pre .0 .pathed .parented .walked)) (s .pre .1)))
+    (k .kind-section .ensures .0, rw third (familied ps t (s .pre .0 .pathed .parented .walked .one) (s .pre .1)))
 
 pub family-sections-spec : {M : Type 1} → statement M
 family-sections-spec =

@@ -6,7 +6,6 @@ use borrow.Author.Needs.{needs}
 use borrow.Rule.Slice.PartMut.{mid-len}
 use lib.ListN.{length}
 use Rattle.base.proofs.Puts.{lent, came-back}
-use Rattle.prepare.proofs.Space.{tree-of}
 use Rattle.prepare.proofs.sections.group_section.Statement.{statement}
 use Rattle.prepare.proofs.sections.group_section.Tie as tie
 
@@ -16,7 +15,7 @@ groups-requires c κs =
     let n = length (s .args .parents .now) in
     let xs = s .args .space .now in
     let d = s .pre .0 .pathed .parented in (
-      tree-of (d .walked),
+      d .walked .one,
       lent 0 n n xs _ (omega arith) (d .walked .orders),
       lent n (2 * n) n xs _ (omega arith) (d .walked .depths),
       lent (2 * n) (3 * n) n xs _ (omega arith) (s .pre .0 .sizes),

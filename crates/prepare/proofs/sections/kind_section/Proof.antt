@@ -5,7 +5,6 @@ use borrow.Author.Needs.{needs}
 use borrow.Rule.Slice.PartMut.{mid-len}
 use lib.ListN.{length}
 use Rattle.base.proofs.Puts.{lent, came-back}
-use Rattle.prepare.proofs.Space.{tree-of}
 use Rattle.prepare.proofs.sections.kind_section.Statement.{statement}
 use Rattle.prepare.proofs.sections.kind_section.Tie as tie
 
@@ -15,7 +14,7 @@ kinds-requires c κs =
     let n = length (s .args .parents .now) in
     let xs = s .args .space .now in
     let w = s .pre .0 .pathed .parented .walked in (
-      tree-of w,
+      w .one,
       lent 0 n n xs _ (omega arith) (w .orders),
       lent (2 * n) (3 * n) n xs _ (omega arith) (s .pre .0 .sizes),
       omega (arith, mid-len (4 + n) (4 + n + n) (s .args .table .now) (omega (arith, s .pre .1)), mid-len (2 * n) (3 * n) xs (omega (arith, w .room))),

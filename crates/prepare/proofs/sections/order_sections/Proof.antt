@@ -6,7 +6,6 @@ use lib.ListN.{length}
 use Rattle.base.specs.Lists.{below, put}
 use Rattle.tree.specs.Parents.{depth}
 use Rattle.tree.specs.Forest.{order, position}
-use Rattle.prepare.proofs.Space.{tree-of}
 use Rattle.prepare.proofs.sections.Whole.{sectioned}
 use Rattle.prepare.proofs.sections.order_sections.Statement.{statement}
 use Rattle.prepare.proofs.sections.order_sections.Tie as tie
@@ -24,7 +23,7 @@ returns c =
     let second = k .carry .ensures ∙ ap (put _ (4 + 3 * n)) (w .orders) ∙ ap (λ l. put l (4 + 3 * n) (order ps)) first in
     let third : c .before .before .pre-section .last .1 .0 ≡ put (put (put t 4 (below n (depth ps))) (4 + 3 * n) (order ps)) (4 + 4 * n) (below n (position ps))
     = c .before .before .pre-section .ensures ∙ ap (λ l. put l (4 + 4 * n) (below n (position ps))) second in
-    rw third (sectioned ps t (tree-of w) (s .pre .1) (s .pre .2) (s .pre .3))
+    rw third (sectioned ps t (w .one) (s .pre .1) (s .pre .2) (s .pre .3))
 
 pub order-sections-spec : {M : Type 1} → statement M
 order-sections-spec =

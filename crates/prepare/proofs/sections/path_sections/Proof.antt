@@ -5,7 +5,6 @@ use borrow.Author.Needs.{needs}
 use lib.ListN.{length}
 use Rattle.base.specs.Lists.{below, put}
 use Rattle.table.specs.Ladders.{ladPos}
-use Rattle.prepare.proofs.Space.{tree-of}
 use Rattle.prepare.proofs.sections.Whole.{laddered}
 use Rattle.prepare.proofs.sections.path_sections.Statement.{statement}
 use Rattle.prepare.proofs.sections.path_sections.Tie as tie
@@ -19,7 +18,7 @@ returns c =
     let (paths, laid-so) = k .ladder-section .ensures in
     let laid = c .before .before .by-entry .ensures (ladPos ps) (laid-so .0 .places) ∙ ap (λ l. put l (4 + 2 * n) (below n (ladPos ps))) (laid-so .1) in
     let w = laid-so .0 .pathed .parented .walked in
-    (paths, (w, rw laid (laddered ps (s .args .table .now) (tree-of w) (s .pre .1) (s .pre .2))))
+    (paths, (w, rw laid (laddered ps (s .args .table .now) (w .one) (s .pre .1) (s .pre .2))))
 
 pub path-sections-spec : {M : Type 1} → statement M
 path-sections-spec =

@@ -6,7 +6,6 @@ use borrow.Author.Needs.{needs}
 use borrow.Rule.Slice.PartMut.{mid-len}
 use lib.ListN.{length}
 use Rattle.base.proofs.Puts.{lent, came-back}
-use Rattle.prepare.proofs.Space.{tree-of}
 use Rattle.prepare.proofs.sections.pre_section.Statement.{statement}
 use Rattle.prepare.proofs.sections.pre_section.Tie as tie
 
@@ -15,7 +14,7 @@ positions-requires c κs =
     let s = c .before .before .before .before .before in
     let n = length (s .args .parents .now) in
     let w = s .pre .0 in
-    (tree-of w, lent 0 n n (s .args .space .now) _ (omega arith) (w .orders), mid-len (4 + 4 * n) (4 + 4 * n + n) (s .args .table .now) (omega (arith, s .pre .1)) ∙ omega arith)
+    (w .one, lent 0 n n (s .args .space .now) _ (omega arith) (w .orders), mid-len (4 + 4 * n) (4 + 4 * n + n) (s .args .table .now) (omega (arith, s .pre .1)) ∙ omega arith)
 
 returns : tie.Need-returns
 returns c =
