@@ -8,5 +8,4 @@ pub mod Joins
 pub mod Rows
 pub mod Views
 pub mod Puts
-pub mod Fills
 pub mod Measures

@@ -5,10 +5,10 @@ use Prim.Native.Nat.{ℕ, _+_, _-_, _≤_, _<_}
 use native.Mathlib.Omega.{arith}
 use native.Mathlib.Decide.{decLe}
 use borrow.Rule.Slice.PartMut.{midOf, putMid, post-is, mid-len}
-use lib.ListN.{length, take, drop, length-append, length-take, length-drop, take-append-drop, drop-of-length-le, set, replicate, length-replicate}
+use lib.ListN.{length, take, drop, length-append, length-take, length-drop, take-append-drop, drop-of-length-le, set, getD, replicate, length-replicate}
 use lib.Seq.{drop-append-le, drop-at, drop-drop, length-take-le, take-at, take-add, take-all, take-nil, take-take, set-split}
 use Rattle.base.specs.Lists.{view, put, padded}
-use Rattle.base.proofs.Views.{view-back, view-other}
+use Rattle.base.proofs.Views.{view-back, view-other, filled-at}
 use mathlib.Core.Logic.{_⊎_, ⊎-elim}
 use native.Mathlib.Numerals.{add-one}
 
@@ -114,10 +114,18 @@ lent a b c l x e q = lent-view a b c l e ∙ q
 pub came-back : (a c : ℕ) (l y x : List ℕ) → a + c ≤ length l → length y ≡ length (midOf a (a + c - a) l) → y ≡ x → putMid a (a + c - a) l y ≡ put l a x
 came-back a c l y x h n e = lent-back a (a + c) l y x e (omega (arith, ap length e, mid-len a (a + c) l h))
 
-pub came-filled : (a b c x : ℕ) (l y : List ℕ) → a + c ≡ b → b ≤ length l → y ≡ replicate (length (midOf a (b - a) l)) x → putMid a (b - a) l y ≡ put l a (replicate c x)
-came-filled a b c x l y e h q =
-    let z : length (midOf a (b - a) l) ≡ c = mid-len a b l h ∙ omega arith in
-    lent-back a b l y (replicate c x) (q ∙ ap (λ k. replicate k x) z) (omega (arith, length-replicate {A = ℕ} c x))
+-- a part that is lent and set to one word
+module _ (a b c x : ℕ) (l y : List ℕ) (e : a + c ≡ b) (h : b ≤ length l) (q : y ≡ replicate (length (midOf a (b - a) l)) x) where
+  pub filled-all : y ≡ replicate c x
+  filled-all = let z : length (midOf a (b - a) l) ≡ c = mid-len a b l h ∙ omega arith in q ∙ ap (λ k. replicate k x) z
+
+  pub came-filled : putMid a (b - a) l y ≡ put l a (replicate c x)
+  came-filled = lent-back a b l y (replicate c x) filled-all (omega (arith, length-replicate {A = ℕ} c x))
+
+pub put-filled : (a c x : ℕ) (l : List ℕ) → a + c ≤ length l → (v : ℕ) → v < c → getD (view a c (put l a (replicate c x))) v 0 ≡ x
+put-filled a c x l h v b =
+    let n : length (replicate c x) ≡ c = length-replicate c x in
+    ap (λ w. getD w v 0) (put-view l a (replicate c x) (omega arith) c n) ∙ filled-at (replicate c x) c x v refl (omega arith)
 
 -- all words from a on, lent and set to 0
 pub wiped : (l y : List ℕ) (a : ℕ) → a ≤ length l → y ≡ replicate (length (midOf a (length l - a) l)) 0 → putMid a (length l - a) l y ≡ padded (length l) (take a l)

@@ -5,9 +5,9 @@ ghost use Rattle.base.specs.Limits.{mostEntries, spaceWords};
 ghost use Rattle.judge.specs.Regions.{NoStray, Linked, heads, nexts};
 use crate::regions::CHILDREN;
 use crate::regions::SIBLINGS;
+use crate::regions::reset;
 use base::Node;
 use base::limits::TOP_MARK;
-use base::set_all;
 
 // Links the entries, and hands back the first top, or the top mark.
 pub(crate) fn link(parents: &[u32], space: &mut [u32]) -> Node
@@ -17,7 +17,7 @@ pub(crate) fn link(parents: &[u32], space: &mut [u32]) -> Node
     let n = parents.len();
     let a = CHILDREN * n;
     let b = SIBLINGS * n;
-    set_all(&mut space[a..b], TOP_MARK);
+    reset(space, a, n, TOP_MARK);
     let mut first = Node(TOP_MARK);
     let mut end = Node(n as u32);
     while 0 < end.0 {

@@ -12,9 +12,9 @@ ghost use Rattle.tree.specs.Faults.{lowest, meetsTop};
 ghost use Rattle.judge.specs.Regions.{orAll, Marked};
 use crate::regions::MARKS;
 use crate::regions::REGIONS;
+use crate::regions::reset;
 use base::Node;
 use base::Position;
-use base::set_all;
 
 // The lowest entry whose climb never meets the top, where there is one.
 pub(crate) fn first_lost(parents: &[u32], count: usize, space: &mut [u32]) -> Node
@@ -35,8 +35,7 @@ fn mark(parents: &[u32], count: usize, space: &mut [u32])
 {
     let n = parents.len();
     let a = MARKS * n;
-    let b = REGIONS * n;
-    set_all(&mut space[a..b], 0);
+    reset(space, a, n, 0);
     let mut at = Position(0);
     while (at.0 as usize) < count {
         let v = Node(space[at.0 as usize]);

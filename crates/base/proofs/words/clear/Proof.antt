@@ -7,7 +7,7 @@ use native.Mathlib.Omega.{arith}
 use borrow.Rule.Slice.PartMut.{post-is}
 use borrow.Author.Needs.{needs}
 use lib.ListN.{length, replicate, drop-of-length-le}
-use Rattle.base.proofs.Fills.{filled-all}
+use Rattle.base.proofs.Puts.{filled-all}
 use Rattle.base.proofs.words.clear.Statement.{statement}
 use Rattle.base.proofs.words.clear.Tie as tie
 

@@ -1,16 +1,16 @@
 -- `link::link` meets its contract. The entries from `end` on are linked. Assumes nothing.
-use mathlib.Core.Path.{_≡_, refl, _∙_}
+use mathlib.Core.Path.{_≡_, refl, ap, _∙_}
 use mathlib.Core.Logic.{⊎-elim}
 use Prim.Native.Nat.{_+_, _*_, _-_, _≤_, _<_}
 use native.Mathlib.Omega.{arith}
 use borrow.Author.Needs.{needs}
-use borrow.Rule.Slice.PartMut.{same-len-mid}
-use lib.ListN.{length, length-set}
+use lib.ListN.{length, getD, length-set}
+use Rattle.base.specs.Lists.{view}
 use Rattle.base.specs.Limits.{topMark}
 use Rattle.tree.specs.Parents.{word}
 use Rattle.judge.specs.Regions.{Linked, heads, nexts}
 use Rattle.judge.proofs.link.Chains.{from-end, link-below-in, link-top-in}
-use Rattle.base.proofs.Fills.{filled-part}
+use Rattle.base.proofs.Puts.{put-filled}
 use Rattle.judge.proofs.link.link.Statement.{statement}
 use Rattle.judge.proofs.link.link.Tie as tie
 
@@ -27,16 +27,16 @@ loop-holds c =
     let s = f .before .before .before .before in
     let ps = s .args .parents .now in
     let xs = s .args .space .now in
-    let ys = f .set-all .last .0 in (
+    let n = length ps in (
       refl,
       omega arith,
       omega arith,
       omega arith,
-      omega (arith, same-len-mid (2 * length ps) (3 * length ps - 2 * length ps) xs ys (f .set-all .kept .0)),
+      omega (arith, f .reset .kept .0),
       record {
-        heads = λ v h. filled-part (2 * length ps) (3 * length ps) (length ps) topMark xs ys (omega arith) (omega arith) (f .set-all .ensures) (2 * length ps) (omega arith) v h ∙ rw (from-end ps (length ps) v (omega arith));
+        heads = λ v h. ap (λ l. getD (view (2 * n) n l) v 0) (f .reset .ensures) ∙ put-filled (2 * n) n topMark xs (omega arith) v h ∙ rw (from-end ps n v (omega arith));
         nexts = λ j h k. absurd (omega arith);
-        tops = rw (from-end ps (length ps) topMark (omega arith));
+        tops = rw (from-end ps n topMark (omega arith));
       },
       refl,
     )
@@ -78,11 +78,7 @@ loop-again-2 c =
     )
 
 same-length : tie.Need-same-length Inv-loop μ-loop
-same-length c =
-    let b = c .before .before in
-    let f = b .before .before .before in
-    let n = length (start b .args .parents .now) in
-    b .loop .inv .6 ∙ same-len-mid (2 * n) (3 * n - 2 * n) (start b .args .space .now) (f .set-all .last .0) (f .set-all .kept .0)
+same-length c = let b = c .before .before in b .loop .inv .6 ∙ b .before .before .before .reset .kept .0
 
 returns : tie.Need-returns Inv-loop μ-loop
 returns c =
@@ -96,10 +92,6 @@ link-spec =
     (tie.spec
     Inv-loop
     μ-loop
-    (λ c. search needs)
-    (λ c. search needs)
-    (λ c. search needs)
-    (λ c. search needs)
     (λ c. search needs)
     (λ c. search needs)
     (λ c κs. search needs)

@@ -1,26 +1,25 @@
 -- `lost::mark` meets its contract. Assumes nothing.
-use mathlib.Core.Path.{_≡_, refl, _∙_}
-use mathlib.Core.List.{_++_}
-use Prim.Native.Nat.{_+_, _*_, _-_, _≤_, _<_}
+use mathlib.Core.Path.{_≡_, refl, ap, _∙_}
+use mathlib.Core.Logic.{inl}
+use mathlib.Core.List.{List}
+use Prim.Native.Nat.{ℕ, _+_, _*_, _-_, _≤_, _<_}
 use native.Mathlib.Omega.{arith}
 use borrow.Author.Needs.{needs}
-use borrow.Rule.Slice.PartMut.{same-len-mid, postOf}
-use lib.ListN.{length, getD, length-set}
+use lib.ListN.{length, getD, replicate, length-set, length-replicate}
 use Rattle.base.specs.Lists.{view}
 use Rattle.tree.specs.Forest.{order}
 use Rattle.judge.proofs.lost.Marks.{MarkedTo, mark-none, mark-end, word-low, order-kept, mark-in}
-use Rattle.base.proofs.Views.{view-other}
-use Rattle.base.proofs.Fills.{filled-part}
+use Rattle.base.proofs.Puts.{put-filled, stays}
 use Rattle.tree.proofs.Forests.{order-short}
 use Rattle.judge.proofs.lost.mark.Statement.{statement}
 use Rattle.judge.proofs.lost.mark.Tie as tie
 
 abbrev Inv-loop : tie.InvT-loop
-Inv-loop parents count space₀ n a b at₀ space at =
+Inv-loop parents count space₀ n a at₀ space at =
     (a ≡ 5 * length parents) × (at .0 ≤ count) × (6 * length parents ≤ length space) × (view 0 count space ≡ order parents) × MarkedTo parents (at .0) (view (5 * length parents) (length parents) space) × (length space ≡ length space₀)
 
 abbrev μ-loop : tie.MeasureT-loop
-μ-loop parents count space₀ n a b at₀ space at = count - at .0
+μ-loop parents count space₀ n a at₀ space at = count - at .0
 
 loop-holds : tie.Need-loop-holds Inv-loop μ-loop
 loop-holds c =
@@ -28,12 +27,15 @@ loop-holds c =
     let s = f .before .before .before .before in
     let ps = s .args .parents .now in
     let xs = s .args .space .now in
-    let ys = f .set-all .last .0 in (
+    let n = length ps in
+    let few = order-short ps (omega arith) in
+    let zeros : List ℕ = replicate n 0 in
+    let room : 5 * n + length zeros ≤ length xs = omega (arith, length-replicate {A = ℕ} n 0) in (
       omega arith,
       omega arith,
-      omega (arith, same-len-mid (5 * length ps) (6 * length ps - 5 * length ps) xs ys (f .set-all .kept .0)),
-      view-other (5 * length ps) 0 (s .args .count) xs (ys ++ postOf (5 * length ps) (6 * length ps - 5 * length ps) xs) (omega (arith, order-short ps (omega arith))) (omega arith) ∙ s .pre .3,
-      mark-none ps (omega arith) _ (filled-part (5 * length ps) (6 * length ps) (length ps) 0 xs ys (omega arith) (omega arith) (f .set-all .ensures) (5 * length ps) (omega arith)),
+      omega (arith, f .reset .kept .0),
+      rw (f .reset .ensures) (stays xs (5 * n) zeros room 0 (s .args .count) (inl (omega (arith, few)))) ∙ s .pre .3,
+      mark-none ps (omega arith) _ (λ v h. ap (λ l. getD (view (5 * n) n l) v 0) (f .reset .ensures) ∙ put-filled (5 * n) n 0 xs (omega arith) v h),
       refl,
     )
 
@@ -64,11 +66,7 @@ loop-again c =
     )
 
 same-length : tie.Need-same-length Inv-loop μ-loop
-same-length c =
-    let b = c .before .before in
-    let f = b .before .before .before in
-    let n = length (start b .args .parents .now) in
-    b .loop .inv .5 ∙ same-len-mid (5 * n) (6 * n - 5 * n) (start b .args .space .now) (f .set-all .last .0) (f .set-all .kept .0)
+same-length c = let b = c .before .before in b .loop .inv .5 ∙ b .before .before .before .reset .kept .0
 
 returns : tie.Need-returns Inv-loop μ-loop
 returns c =
@@ -81,11 +79,6 @@ mark-spec =
     (tie.spec
     Inv-loop
     μ-loop
-    (λ c. search needs)
-    (λ c. search needs)
-    (λ c. search needs)
-    (λ c. search needs)
-    (λ c. search needs)
     (λ c. search needs)
     (λ c κs. search needs)
     loop-holds
