@@ -28,7 +28,9 @@ enum tantsheko_number {
     TANTSHEKO_UNKNOWN = 7,     /* an argument is no entry: the first such argument */
     TANTSHEKO_TOO_DEEP = 8,    /* deeper than the entry: the entry */
     TANTSHEKO_BROKEN = 9,      /* the table is not one that the question can be answered from: 0 */
-    TANTSHEKO_NOT_ABOVE = 10   /* u is not strictly above v: u */
+    TANTSHEKO_NOT_ABOVE = 10,  /* u is not strictly above v: u */
+    TANTSHEKO_BAD_RATE = 11,   /* the class's rate is over 1,000,000, or past the list's end: 0 */
+    TANTSHEKO_BAD_SUM = 12     /* the sum is outside -2,000,000,000 to 2,000,000,000: 0 */
 };
 
 /* What preparing answers. */
@@ -45,6 +47,12 @@ typedef struct {
     uint32_t cells[15];
     uint32_t count;
 } tantsheko_answer;
+
+/* What a premium question answers: the answer, and the premium in cents, 0 where it is refused. */
+typedef struct {
+    tantsheko_answer answer;
+    int64_t cents;
+} tantsheko_quote;
 
 /* W: how many words the table of a list of n entries has. */
 uint64_t tantsheko_table_words(uint32_t n);
@@ -71,6 +79,12 @@ void tantsheko_ancestry(const uint32_t *table, size_t table_len, uint32_t u, uin
 
 /* The child of u on the way to v. Reads at most fifteen cells. */
 void tantsheko_branch(const uint32_t *table, size_t table_len, uint32_t u, uint32_t v, tantsheko_answer *answer);
+
+/* The premium of a sum insured for entry v at rating level d, with the class and the cells of the rating lookup. rates
+ * has a rate per million for each entry, from entry 0 on; the premium is sum times the class's rate divided by 10,000, to the
+ * nearest cent, a half going away from zero. Writes every word of the answer, and the cents. */
+void tantsheko_premium(const uint32_t *table, size_t table_len, const uint32_t *rates, size_t rates_len, uint32_t v,
+                       uint32_t d, int64_t sum, tantsheko_answer *answer, int64_t *cents);
 
 #ifdef __cplusplus
 }

@@ -51,6 +51,14 @@ broken = record { number = 9; word = 0 }
 abbrev pub notAbove : ℕ → Outcome
 notAbove u = record { number = 10; word = u }
 
+-- 11 bad rate: the class's rate is over its limit, or past the end of the list of rates
+abbrev pub badRate : Outcome
+badRate = record { number = 11; word = 0 }
+
+-- 12 bad sum: the sum insured is outside its range
+abbrev pub badSum : Outcome
+badSum = record { number = 12; word = 0 }
+
 -- a number and a word are an outcome's
 abbrev pub Says : Outcome → ℕ → ℕ → Type 0
 Says o number word = (number ≡ o .number) × (word ≡ o .word)

@@ -20,3 +20,7 @@ pub const TOO_DEEP: u32 = 8;
 pub const BROKEN: u32 = 9;
 
 pub const NOT_ABOVE: u32 = 10;
+
+pub const BAD_RATE: u32 = 11;
+
+pub const BAD_SUM: u32 = 12;

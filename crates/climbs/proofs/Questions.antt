@@ -17,7 +17,7 @@ use Rattle.base.proofs.Filters.{times-has, has-not}
 use Rattle.tree.specs.Parents.{up, climb, depth, children}
 use Rattle.tree.specs.Forest.{size, position}
 use Rattle.tree.specs.Level.{Ancestor, levelAncestor}
-use Rattle.tree.specs.Questions.{known, classOf, climbOf, ancestryOf, branchOf}
+use Rattle.tree.specs.Questions.{known, classOf, ratingOf, climbOf, ancestryOf, branchOf}
 use Rattle.tree.proofs.Depths.{up-some, up-none, level-in, level-deep, level-defined}
 use Rattle.tree.proofs.Intervals.{depth-less, interval}
 use Rattle.tree.proofs.Ancestry.{on-climb, towards, towards-none, strictly-deeper}
@@ -75,8 +75,8 @@ module _ (ps t : List ℕ) (p : Prepared ps t) where
       (λ h b. level-deep ps (small ps t p) (tree ps t p) v d b)
       (λ h b. (b, sym (level-in ps (small ps t p) (tree ps t p) v d b)))
 
-  pub rating-right : (v d : ℕ) → run t (rating (length t) v d) ≡ classOf ps v d
-  unfolding rating
+  pub rating-right : (v d : ℕ) → run t (rating (length t) v d) ≡ ratingOf ps v d
+  unfolding rating ratingOf
   rating-right v d = level-right v d
 
   -- climb: so many parents up

@@ -1,14 +1,16 @@
-// The C interface: measures, preparing and the five questions. A slice is a pointer and a length. An answer is written to an array of the caller's:
-// preparing's to two words, a question's to eighteen.
+// The C interface: measures, preparing, the five questions and the premium. A slice is a pointer and a length. An answer is written to an array of the caller's:
+// preparing's to two words, a question's to eighteen, with the cents of a premium beside it.
 ghost use mathlib.Core.Path.{_≡_};
 ghost use lib.ListN.{length};
 ghost use Rattle.base.specs.Limits.{tableWords, spaceWords};
 ghost use Rattle.table.specs.Preparing.{preparing, tableAfter, spaceAfter};
 ghost use Rattle.answers.specs.Answers.{answerTo, answerWords};
 ghost use Rattle.answers.specs.Steps.{level, climbing, rating, ancestry, branch};
+ghost use Rattle.premiums.specs.Quotes.{quoteTo};
 ghost use Rattle.exports.specs.ReplyWords.{replyWords};
 use answers::ANSWER_WORDS;
 use base::Node;
+use base::Sum;
 use base::limits::space_words;
 use base::limits::table_words;
 
@@ -65,7 +67,7 @@ pub extern "C" fn tantsheko_climb(table: &[u32], v: u32, k: u32, answer: &mut [u
 pub extern "C" fn tantsheko_rating(table: &[u32], v: u32, d: u32, answer: &mut [u32; ANSWER_WORDS])
     ensures { λ _. ⌜ now (answer .exit) ≡ answerWords (answerTo (now (table .entry)) (rating (length (now (table .entry))) v d)) ⌝ }
 {
-    query::look_words(table, false, Node(v), d, answer);
+    query::rating_words(table, Node(v), d, answer);
 }
 
 // Whether u is at or above v: 1 or 0.
@@ -89,4 +91,22 @@ pub extern "C" fn tantsheko_branch(table: &[u32], u: u32, v: u32, answer: &mut [
 {
     let found = query::branch(table, Node(u), Node(v));
     *answer = found.words();
+}
+
+// The premium of a sum insured for v at rating level d.
+#[no_mangle]
+pub extern "C" fn tantsheko_premium(
+    table: &[u32],
+    rates: &[u32],
+    v: u32,
+    d: u32,
+    sum: i64,
+    answer: &mut [u32; ANSWER_WORDS],
+    cents: &mut i64,
+)
+    ensures answer { λ _. ⌜ now (answer .exit) ≡ answerWords (quoteTo (now (table .entry)) (now (rates .entry)) v d sum .answer) ⌝ }
+    ensures cents { λ _. ⌜ now (cents .exit) ≡ quoteTo (now (table .entry)) (now (rates .entry)) v d sum .cents .0 ⌝ }
+{
+    let premium = premiums::premium_words(table, rates, Node(v), d, Sum(sum), answer);
+    *cents = premium.0;
 }

@@ -9,10 +9,14 @@ mod reading;
 mod relate;
 
 pub use look::look_words;
+ghost use mathlib.Core.Path.{_≡_};
 ghost use mathlib.Core.List.{[], _∷_};
-ghost use Rattle.tree.specs.Questions.{classOf, climbOf, ancestryOf, branchOf};
+ghost use lib.ListN.{length};
+ghost use Rattle.tree.specs.Questions.{classOf, ratingOf, climbOf, ancestryOf, branchOf};
+ghost use Rattle.answers.specs.Answers.{answerTo, answerWords};
 ghost use Rattle.answers.specs.Promises.{Answers, Gives, Few, Local, Right};
 ghost use Rattle.answers.specs.Steps.{level, climbing, rating, ancestry, branch};
+use answers::ANSWER_WORDS;
 use answers::Answer;
 use base::Node;
 
@@ -44,9 +48,16 @@ pub fn rating(table: &[u32], v: Node, d: u32) -> Answer
     ensures numbers { λ r. ⌜ Gives (0 ∷ 7 ∷ 8 ∷ 9 ∷ []) r ⌝ }
     ensures few { λ r. ⌜ Few 10 r ⌝ }
     ensures local { λ r. ⌜ Local (λ len. rating len (v .0) d) (now (table .entry)) r ⌝ }
-    ensures right { λ r. ⌜ Right (λ ps. classOf ps (v .0) d) (now (table .entry)) r ⌝ }
+    ensures right { λ r. ⌜ Right (λ ps. ratingOf ps (v .0) d) (now (table .entry)) r ⌝ }
 {
     level(table, v, d)
+}
+
+// As `rating`, in words of the caller's.
+pub fn rating_words(table: &[u32], v: Node, d: u32, words: &mut [u32; ANSWER_WORDS])
+    ensures { λ _. ⌜ now (words .exit) ≡ answerWords (answerTo (now (table .entry)) (rating (length (now (table .entry))) (v .0) d)) ⌝ }
+{
+    look_words(table, false, v, d, words);
 }
 
 // Whether u is at or above v: the result is 1 or 0.

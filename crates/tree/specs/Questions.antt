@@ -14,9 +14,13 @@ use Rattle.tree.specs.Level.{levelAncestor}
 abbrev pub known : List ℕ → ℕ → Outcome → Outcome
 known ps v o = cond (leb (length ps) v) (unknown v) o
 
--- level and rating: 8 where v has no ancestor at depth d
+-- level: 8 where v has no ancestor at depth d
 unfoldable pub classOf : List ℕ → ℕ → ℕ → Outcome
 classOf ps v d = known ps v (Option·elim (levelAncestor ps v d) (tooDeep v) accepted)
+
+-- rating at rating level d: as level
+unfoldable pub ratingOf : List ℕ → ℕ → ℕ → Outcome
+ratingOf ps v d = classOf ps v d
 
 -- climb: 8 where no entry is k climbs above v
 unfoldable pub climbOf : List ℕ → ℕ → ℕ → Outcome

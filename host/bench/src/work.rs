@@ -5,8 +5,8 @@ use std::hint::black_box;
 use std::time::Instant;
 use tantsheko::{prepare_into, Table};
 
-/// The five questions, as the page names them.
-pub const QUESTIONS: [&str; 5] = ["level", "climb", "rating", "ancestry", "branch"];
+/// The questions, as the page names them.
+pub const QUESTIONS: [&str; 6] = ["level", "climb", "rating", "ancestry", "branch", "premium"];
 
 /// The medians of a tree, in nanoseconds: preparing by entry, a question by question.
 pub struct Row {
@@ -15,7 +15,7 @@ pub struct Row {
     /// Proved, by hand.
     pub prepare: [f64; 2],
     /// Proved, by hand, of each question.
-    pub questions: [[f64; 2]; 5],
+    pub questions: [[f64; 2]; QUESTIONS.len()],
     /// The level lookup by a plain climb, and by binary lifting; neither lists cells.
     pub climb: f64,
     pub lifting: f64,
@@ -48,28 +48,61 @@ fn prepare_times(parents: &[u32]) -> ([f64; 2], Vec<u32>) {
     ([median(a), median(b)], ta)
 }
 
+/// Both ways of a piece of work over the same arguments.
+fn times<A: Copy>(asked: &[A], ours: impl Fn(A) -> u32, theirs: impl Fn(A) -> u32) -> [f64; 2] {
+    let (mut a, mut b) = (Vec::new(), Vec::new());
+    for _ in 0..11 {
+        a.push(clock(asked.len(), || {
+            asked.iter().fold(0, |x, &q| x ^ ours(q))
+        }));
+        b.push(clock(asked.len(), || {
+            asked.iter().fold(0, |x, &q| x ^ theirs(q))
+        }));
+    }
+    [median(a), median(b)]
+}
+
+/// What is looked at of an answer: its number and its last cell.
+fn seen(r: &tantsheko::Answer) -> u32 {
+    r.number() ^ r.places()[r.cells().len() - 1]
+}
+
+fn seen_by_hand(r: &reference::Answer) -> u32 {
+    r.number ^ r.cells[r.count as usize - 1]
+}
+
 /// Both ways of a question over the same arguments.
 fn question_times(
     asked: &[(u32, u32)],
     ours: impl Fn(u32, u32) -> tantsheko::Answer,
     theirs: impl Fn(u32, u32) -> reference::Answer,
 ) -> [f64; 2] {
-    let (mut a, mut b) = (Vec::new(), Vec::new());
-    for _ in 0..11 {
-        a.push(clock(asked.len(), || {
-            asked.iter().fold(0, |x, &(u, v)| {
-                let r = ours(u, v);
-                x ^ r.number() ^ r.places()[r.cells().len() - 1]
-            })
-        }));
-        b.push(clock(asked.len(), || {
-            asked.iter().fold(0, |x, &(u, v)| {
-                let r = theirs(u, v);
-                x ^ r.number ^ r.cells[r.count as usize - 1]
-            })
-        }));
-    }
-    [median(a), median(b)]
+    times(
+        asked,
+        |(u, v)| seen(&ours(u, v)),
+        |(u, v)| seen_by_hand(&theirs(u, v)),
+    )
+}
+
+/// Both ways of the premium, at the levels of a lookup: a rate for each entry, and a sum of any size for each question.
+fn premium_times(table: &Table, asked: &[(u32, u32)], mut below: impl FnMut(usize) -> u32) -> [f64; 2] {
+    let words = table.words();
+    let rates: Vec<u32> = (0..table.entries()).map(|_| below(1_000_001)).collect();
+    let sums: Vec<(u32, u32, i64)> = asked
+        .iter()
+        .map(|&(v, d)| (v, d, i64::from(below(4_000_000_001)) - 2_000_000_000))
+        .collect();
+    times(
+        &sums,
+        |(v, d, sum)| {
+            let r = table.premium(&rates, v, d, sum);
+            seen(r.answer()) ^ r.cents() as u32
+        },
+        |(v, d, sum)| {
+            let r = reference::premium(words, &rates, v, d, sum);
+            seen_by_hand(&r.answer) ^ r.cents as u32
+        },
+    )
 }
 
 /// The ancestors 1, 2, 4, .. above each entry.
@@ -170,6 +203,7 @@ pub fn time(n: usize, kind: usize, name: &'static str) -> Row {
             |u, v| table.branch(u, v),
             |u, v| reference::branch(words, u, v),
         ),
+        premium_times(&table, &level, &mut below),
     ];
     let (climb, lifting) = other_times(&parents, depth, &level);
     Row {

@@ -1,11 +1,13 @@
 //! The class tree and its prepared table, written by hand in Rust from the paper. It shares nothing with the proved
 //! code, so that the two can be compared, word for word and in time.
 
+mod premium;
 mod prepare;
 mod questions;
 mod shapes;
 pub mod trees;
 
+pub use premium::{premium, Quote};
 pub use prepare::{prepare, space_words, table_words};
 pub use questions::{ancestry, branch, climb, level, rating, Answer};
 

@@ -14,19 +14,19 @@ pub struct Answer {
 }
 
 /// A refusal: its number and what it names.
-type Refusal = (u32, u32);
+pub(crate) type Refusal = (u32, u32);
 
 const BROKEN: Refusal = (9, 0);
 
 /// A table as a question reads it: each read is noted.
-struct Reader<'a> {
+pub(crate) struct Reader<'a> {
     table: &'a [u32],
     cells: [u32; 15],
     count: usize,
 }
 
 impl<'a> Reader<'a> {
-    fn new(table: &'a [u32]) -> Self {
+    pub(crate) fn new(table: &'a [u32]) -> Self {
         Reader {
             table,
             cells: [0; 15],
@@ -61,7 +61,7 @@ impl<'a> Reader<'a> {
         Ok(s)
     }
 
-    fn answer(self, result: Result<u32, Refusal>) -> Answer {
+    pub(crate) fn answer(self, result: Result<u32, Refusal>) -> Answer {
         let (number, word) = match result {
             Ok(word) => (0, word),
             Err(refusal) => refusal,
@@ -163,10 +163,17 @@ pub fn climb(table: &[u32], v: u32, k: u32) -> Answer {
     r.answer(result)
 }
 
+/// The class of v at rating level d, as a reader finds it.
+pub(crate) fn rated(r: &mut Reader, v: u32, d: u32) -> Result<u32, Refusal> {
+    r.open().and_then(|s| look(r, s, v, d, false))
+}
+
 /// The class of v at rating level d.
 #[inline(never)]
 pub fn rating(table: &[u32], v: u32, d: u32) -> Answer {
-    level(table, v, d)
+    let mut r = Reader::new(table);
+    let result = rated(&mut r, v, d);
+    r.answer(result)
 }
 
 /// Whether u is at or above v, with u and v known.

@@ -1,11 +1,15 @@
 //! The proved class tree for Rust: a table is prepared from a parent list, and answers which class an entry has at
-//! each depth, with the cells that were read. No precondition is left to the caller.
+//! each depth, with the cells that were read, and what a sum insured costs in its class. No precondition is left to the
+//! caller.
 
 mod ffi;
 pub mod file;
 pub mod list;
+mod premium;
+pub mod rates;
 mod refusal;
 mod table;
 
+pub use premium::{Quote, MOST_RATE, MOST_SUM};
 pub use refusal::Refusal;
 pub use table::{prepare_into, space_words, table_words, Answer, Table, MOST_ENTRIES, TOP};

@@ -89,7 +89,7 @@ fn parent(field: &str, line: usize) -> Result<u32, String> {
     })
 }
 
-fn number(field: &str) -> Option<u32> {
+pub(crate) fn number(field: &str) -> Option<u32> {
     if field.is_empty() || !field.bytes().all(|b| b.is_ascii_digit()) {
         return None;
     }
@@ -97,7 +97,7 @@ fn number(field: &str) -> Option<u32> {
 }
 
 /// The start of a field, for a message.
-fn shown(field: &str) -> String {
+pub(crate) fn shown(field: &str) -> String {
     let short: String = field.chars().take(40).collect();
     if short.len() < field.len() {
         format!("{short}…")

@@ -1,5 +1,6 @@
 //! The answers that turn a call away, by the paper's numbers.
 
+use crate::premium::{MOST_RATE, MOST_SUM};
 use std::fmt;
 
 /// A refusal with what it names.
@@ -25,6 +26,10 @@ pub enum Refusal {
     Broken,
     /// 10: u is not strictly above v; u.
     NotAbove(u32),
+    /// 11: the class's rate is over 1,000,000, or past the end of the list of rates.
+    BadRate,
+    /// 12: the sum insured is outside -2,000,000,000 to 2,000,000,000.
+    BadSum,
 }
 
 impl Refusal {
@@ -42,6 +47,8 @@ impl Refusal {
             7 => Some(Refusal::Unknown(word)),
             8 => Some(Refusal::TooDeep(word)),
             10 => Some(Refusal::NotAbove(word)),
+            11 => Some(Refusal::BadRate),
+            12 => Some(Refusal::BadSum),
             _ => Some(Refusal::Broken),
         }
     }
@@ -59,6 +66,8 @@ impl Refusal {
             Refusal::TooDeep(_) => 8,
             Refusal::Broken => 9,
             Refusal::NotAbove(_) => 10,
+            Refusal::BadRate => 11,
+            Refusal::BadSum => 12,
         }
     }
 
@@ -75,6 +84,8 @@ impl Refusal {
             Refusal::TooDeep(_) => "too deep",
             Refusal::Broken => "broken",
             Refusal::NotAbove(_) => "not above",
+            Refusal::BadRate => "bad rate",
+            Refusal::BadSum => "bad sum",
         }
     }
 
@@ -87,7 +98,12 @@ impl Refusal {
             | Refusal::Unknown(x)
             | Refusal::TooDeep(x)
             | Refusal::NotAbove(x) => x,
-            Refusal::Count | Refusal::ShortTable | Refusal::ShortSpace | Refusal::Broken => 0,
+            Refusal::Count
+            | Refusal::ShortTable
+            | Refusal::ShortSpace
+            | Refusal::Broken
+            | Refusal::BadRate
+            | Refusal::BadSum => 0,
         }
     }
 }
@@ -105,6 +121,11 @@ impl fmt::Display for Refusal {
             Refusal::TooDeep(v) => write!(f, "entry {v} is less deep than that"),
             Refusal::Broken => write!(f, "the table is damaged: prepare it again"),
             Refusal::NotAbove(u) => write!(f, "entry {u} is not above the other entry"),
+            Refusal::BadRate => write!(
+                f,
+                "the class has no rate from 0 to {MOST_RATE} in the list of rates"
+            ),
+            Refusal::BadSum => write!(f, "a sum insured is from -{MOST_SUM} to {MOST_SUM}"),
         }
     }
 }

@@ -57,6 +57,45 @@ fn same_answers(table: &Table, a: u32, b: u32) {
     same(table.branch(a, b), reference::branch(words, a, b));
 }
 
+/// The premium question, with a list of rates.
+fn same_premium(table: &Table, rates: &[u32], v: u32, d: u32, sum: i64) {
+    let ours = table.premium(rates, v, d, sum);
+    let theirs = reference::premium(table.words(), rates, v, d, sum);
+    same(*ours.answer(), theirs.answer);
+    assert_eq!(ours.cents(), theirs.cents, "{v} {d} {sum}");
+}
+
+/// Rates of n entries: most of them legal, the limits among them, and a list that may end early.
+fn some_rates(seed: &mut u64, n: usize) -> Vec<u32> {
+    let length = if below(seed, 4) == 0 { below(seed, n + 1) as usize } else { n };
+    let rate = |seed: &mut u64| match below(seed, 12) {
+        0 => 0,
+        1 => 1_000_000,
+        2 => 1_000_001,
+        3 => u32::MAX,
+        4 => 1_000 * (1 + below(seed, 9)),
+        _ => below(seed, 1_000_001),
+    };
+    (0..length).map(|_| rate(seed)).collect()
+}
+
+/// A sum: small, of any size, at both ends of its range, or past them.
+fn some_sum(seed: &mut u64) -> i64 {
+    let size = match below(seed, 10) {
+        0 => 2_000_000_000,
+        1 => 2_000_000_001,
+        2 => i64::MAX,
+        3 => (next(seed) >> 1) as i64,
+        4 | 5 => i64::from(below(seed, 100)),
+        _ => i64::from(below(seed, 2_000_000_001)),
+    };
+    match below(seed, 20) {
+        0 => i64::MIN,
+        k if k % 2 == 0 => -size,
+        _ => size,
+    }
+}
+
 /// The class by climbing from parent to parent.
 fn climbed(parents: &[u32], v: u32, d: u32) -> Result<u32, Refusal> {
     if v as usize >= parents.len() {
@@ -72,6 +111,7 @@ fn climbed(parents: &[u32], v: u32, d: u32) -> Result<u32, Refusal> {
 
 #[test]
 fn every_small_list() {
+    let mut seed = 5;
     for n in 1..=6usize {
         // Each word is an entry, the top mark, or stray.
         let choices: Vec<u32> = (0..n as u32).chain([TOP, n as u32]).collect();
@@ -88,9 +128,11 @@ fn every_small_list() {
                 continue;
             };
             let table = Table::from_words(words);
+            let rates = some_rates(&mut seed, n);
             for v in 0..=n as u32 {
                 for d in 0..=n as u32 {
                     same_answers(&table, v, d);
+                    same_premium(&table, &rates, v, d, some_sum(&mut seed));
                     assert_eq!(table.level(v, d).result(), climbed(&parents, v, d));
                 }
             }
@@ -127,11 +169,13 @@ fn random_trees() {
         let n = 1 + below(&mut seed, if k % 10 == 0 { 2000 } else { 200 }) as usize;
         let parents = tree(k, n, &mut seed, k % 3 > 0);
         let table = Table::from_words(whole(&parents).expect("a tree"));
+        let rates = some_rates(&mut seed, n);
         for _ in 0..60 {
             let v = below(&mut seed, n);
             let depth = table.words()[4 + v as usize] as usize;
             let d = below(&mut seed, depth + 2);
             same_answers(&table, v, d);
+            same_premium(&table, &rates, v, d, some_sum(&mut seed));
             assert_eq!(table.level(v, d).result(), climbed(&parents, v, d));
             same_answers(&table, v, below(&mut seed, n + 1));
         }
@@ -165,6 +209,7 @@ fn damaged_tables() {
         let n = 1 + below(&mut seed, 60) as usize;
         let parents = tree(k, n, &mut seed, true);
         let words = whole(&parents).expect("a tree");
+        let rates = some_rates(&mut seed, n);
         for _ in 0..60 {
             let mut bad = words.clone();
             for _ in 0..1 + below(&mut seed, 2) {
@@ -184,10 +229,13 @@ fn damaged_tables() {
             for _ in 0..40 {
                 let (a, b) = (below(&mut seed, n + 1), below(&mut seed, n + 1));
                 same_answers(&table, a, b);
+                same_premium(&table, &rates, a, b, some_sum(&mut seed));
             }
         }
         for length in [0, 1, 3, 4, words.len() - 3] {
-            same_answers(&Table::from_words(words[..length].to_vec()), 0, 0);
+            let short = Table::from_words(words[..length].to_vec());
+            same_answers(&short, 0, 0);
+            same_premium(&short, &rates, 0, 0, 25);
         }
     }
 }
@@ -206,4 +254,25 @@ fn the_largest_trees() {
             same_answers(&table, v, below(&mut seed, n));
         }
     }
+}
+
+/// The premium to the nearest cent, worked out with 128 bits and a half that goes away from zero.
+#[test]
+fn halves_of_a_cent() {
+    let table = Table::prepare(&[TOP]).unwrap();
+    let nearest = |sum: i64, rate: u32| {
+        let parts = i128::from(sum) * i128::from(rate);
+        let size = (2 * parts.abs() + 10_000) / 20_000;
+        (parts.signum() * size) as i64
+    };
+    for rate in [0, 1, 3, 7, 125, 999, 1_000, 4_999, 5_000, 5_001, 10_000, 333_333, 999_999, 1_000_000] {
+        for size in (0..20_001).chain(1_999_990_000..=2_000_000_000) {
+            for sum in [size, -size] {
+                let quote = table.premium(&[rate], 0, 0, sum);
+                assert_eq!(quote.result(), Ok((0, nearest(sum, rate))), "{sum} {rate}");
+            }
+        }
+    }
+    assert_eq!(table.premium(&[1_000], 0, 0, 25).result(), Ok((0, 3)));
+    assert_eq!(table.premium(&[1_000], 0, 0, -25).result(), Ok((0, -3)));
 }

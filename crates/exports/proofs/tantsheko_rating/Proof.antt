@@ -1,16 +1,7 @@
 -- `tantsheko_rating` meets its contract. Assumes nothing.
 use borrow.Author.Needs.{needs}
-use Rattle.answers.specs.Steps.{rating, level}
 use Rattle.exports.proofs.tantsheko_rating.Statement.{statement}
 use Rattle.exports.proofs.tantsheko_rating.Tie as tie
 
-returns : tie.Need-returns
-unfolding rating level
-returns c = c .look-words .ensures
-
 pub tantsheko-rating-spec : {M : Type 1} → statement M
-tantsheko-rating-spec =
-    tie.close
-    (tie.spec
-    (λ c κs. search needs)
-    returns)
+tantsheko-rating-spec = tie.close (tie.spec (λ c κs. search needs) (λ c. search needs))

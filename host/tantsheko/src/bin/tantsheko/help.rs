@@ -1,7 +1,7 @@
 //! What each command does.
 
 /// Name, arguments, one line, and more.
-pub const COMMANDS: [(&str, &str, &str, &str); 8] = [
+pub const COMMANDS: [(&str, &str, &str, &str); 10] = [
     (
         "prepare",
         "LIST TABLE",
@@ -51,6 +51,27 @@ A line of another form ends the stream, after the answers to the lines before it
         "the class of each entry at each rating level, as CSV",
         "A row for each entry: its number, then its class at each level, or - where the
 entry is less deep than the level.",
+    ),
+    (
+        "premium",
+        "TABLE RATES ENTRY LEVEL SUM [--cells]",
+        "the premium of a sum insured, in cents",
+        "RATES is a text: the rate of entry 0, 1, .. on a line each, from 0 to 1000000 per
+million. SUM is a whole number from -2000000000 to 2000000000; a sum that takes cover
+off is negative. Prints `class,cents`: the class of the entry at that rating level, and
+SUM times its rate divided by 10000, to the nearest cent, a half going away from zero.
+Refused are, in this order: what `class` refuses, a class whose rate is over its limit
+or past the end of RATES (number 11), a sum outside its range (12).
+With --cells a second line lists the cells of the table that were read.",
+    ),
+    (
+        "premiums",
+        "TABLE RATES LEVEL < SUMS > PREMIUMS",
+        "the premiums of a stream of sums at a rating level",
+        "RATES is as for `premium`. A line is `entry,sum`. Each answer is
+`entry,sum,refusal,class,cents,cells`: refusal is 0 if there is a premium, else class
+and cents are -; cells is how many cells were read.
+A line of another form ends the stream, after the answers to the lines before it.",
     ),
     (
         "check",

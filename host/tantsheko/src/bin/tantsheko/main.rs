@@ -3,8 +3,10 @@
 mod batch;
 mod help;
 mod one;
+mod premiums;
 mod prepare;
 mod prices;
+mod stream;
 
 use std::io::Write;
 use std::path::Path;
@@ -46,6 +48,12 @@ pub fn open(path: &str) -> Result<Table, Stop> {
     file::read(Path::new(path)).map_err(|e| Stop::Fault(format!("{path} {e}")))
 }
 
+/// A text from its file.
+pub fn text_of(path: &str) -> Result<String, Stop> {
+    std::fs::read_to_string(path)
+        .map_err(|e| Stop::Fault(format!("{path} cannot be read: {}", file::reason(&e))))
+}
+
 /// A number of 32 bits.
 pub fn number(word: &str, what: &str) -> Result<u32, Stop> {
     let digits = !word.is_empty() && word.bytes().all(|b| b.is_ascii_digit());
@@ -80,6 +88,8 @@ fn run(args: &[String]) -> Done {
         "check" => prepare::check(rest),
         "batch" => batch::batch(rest),
         "pricelist" => prices::pricelist(rest),
+        "premium" => premiums::premium(rest),
+        "premiums" => premiums::premiums(rest),
         question => one::one(question, rest),
     }
 }

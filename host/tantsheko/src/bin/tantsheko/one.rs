@@ -13,7 +13,7 @@ fn called(question: &str) -> (&'static str, &'static str) {
 }
 
 /// Why there is no result, in words, with what to do.
-fn refused(table: &Table, question: &str, a: u32, b: u32, refusal: Refusal) -> String {
+pub fn refused(table: &Table, question: &str, a: u32, b: u32, refusal: Refusal) -> String {
     match refusal {
         Refusal::Unknown(v) => format!(
             "{v} is not an entry: the table has entries 0 to {}",
@@ -22,6 +22,9 @@ fn refused(table: &Table, question: &str, a: u32, b: u32, refusal: Refusal) -> S
         Refusal::TooDeep(v) => match table.words().get(4 + v as usize) {
             Some(depth) if question == "climb" => {
                 format!("entry {v} has depth {depth}, so {b} climbs lead past the top")
+            }
+            Some(depth) if question == "premium" => {
+                format!("entry {v} has depth {depth}, so it has no class at level {b}")
             }
             Some(depth) => format!("entry {v} has depth {depth}, so it has no class at depth {b}"),
             None => refusal.to_string(),

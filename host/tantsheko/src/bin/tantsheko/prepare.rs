@@ -1,6 +1,6 @@
 //! From a list to its table, and back to see that they agree.
 
-use crate::{open, say, Done, Stop};
+use crate::{open, say, text_of, Done, Stop};
 use std::io::{IsTerminal, Write};
 use std::path::Path;
 use tantsheko::{file, list, Table};
@@ -33,9 +33,7 @@ impl Drop for Progress {
 
 /// A list from its file.
 fn parents_of(path: &str) -> Result<Vec<u32>, Stop> {
-    let text = std::fs::read_to_string(path)
-        .map_err(|e| Stop::Fault(format!("{path} cannot be read: {}", file::reason(&e))))?;
-    list::read(&text).map_err(|e| Stop::Fault(format!("{path}: {e}")))
+    list::read(&text_of(path)?).map_err(|e| Stop::Fault(format!("{path}: {e}")))
 }
 
 fn table_of(path: &str, progress: &Progress) -> Result<Table, Stop> {

@@ -1,6 +1,6 @@
 //! The brokers' price list.
 
-use crate::batch::put;
+use crate::stream::put;
 use crate::{number, open, Done, Stop};
 use std::io::{BufWriter, Write};
 use tantsheko::Refusal;
@@ -23,17 +23,17 @@ pub fn pricelist(args: &[String]) -> Done {
     let mut row = b"entry".to_vec();
     for level in &levels {
         row.extend_from_slice(b",level ");
-        put(&mut row, *level);
+        put(&mut row, (*level).into());
     }
     row.push(b'\n');
     output.write_all(&row)?;
     for v in 0..table.entries() {
         row.clear();
-        put(&mut row, v);
+        put(&mut row, v.into());
         for &level in &levels {
             row.push(b',');
             match table.rating(v, level).result() {
-                Ok(class) => put(&mut row, class),
+                Ok(class) => put(&mut row, class.into()),
                 Err(Refusal::TooDeep(_)) => row.push(b'-'),
                 Err(other) => {
                     output.flush()?;

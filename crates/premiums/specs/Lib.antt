@@ -1,0 +1,2 @@
+-- What a premium question answers.
+pub mod Quotes

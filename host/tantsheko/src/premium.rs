@@ -1,0 +1,62 @@
+//! The premium of a sum insured: the class by the rating lookup, at its rate in a list of rates.
+
+use crate::ffi;
+use crate::refusal::Refusal;
+use crate::table::{Answer, Table};
+use std::mem::MaybeUninit;
+
+/// The greatest rate, per million.
+pub const MOST_RATE: u32 = 1_000_000;
+
+/// The greatest size of a sum insured.
+pub const MOST_SUM: i64 = 2_000_000_000;
+
+/// What a premium question gives: class and premium or a refusal, and the cells of the rating lookup.
+#[derive(Clone, Copy, Debug, PartialEq, Eq)]
+#[repr(C)]
+pub struct Quote {
+    answer: Answer,
+    cents: i64,
+}
+
+impl Quote {
+    /// The class and the premium in cents, or why there is none.
+    pub fn result(&self) -> Result<(u32, i64), Refusal> {
+        self.answer.result().map(|class| (class, self.cents))
+    }
+
+    /// The answer without the money.
+    pub fn answer(&self) -> &Answer {
+        &self.answer
+    }
+
+    /// The premium in cents; 0 for a refusal.
+    pub fn cents(&self) -> i64 {
+        self.cents
+    }
+}
+
+impl Table {
+    /// The premium of a sum insured for v at rating level d: `rates` has one for each entry, per million.
+    #[inline]
+    pub fn premium(&self, rates: &[u32], v: u32, d: u32, sum: i64) -> Quote {
+        let mut quote = MaybeUninit::<Quote>::uninit();
+        let words = self.words();
+        let at = quote.as_mut_ptr();
+        // SAFETY: each pointer and length are a slice's, and the question writes the answer and the cents.
+        unsafe {
+            ffi::tantsheko_premium(
+                words.as_ptr(),
+                words.len(),
+                rates.as_ptr(),
+                rates.len(),
+                v,
+                d,
+                sum,
+                &raw mut (*at).answer,
+                &raw mut (*at).cents,
+            );
+            quote.assume_init()
+        }
+    }
+}
