@@ -1,2 +1,3 @@
--- What a premium question answers.
+-- What a premium question answers, and when each number comes.
 pub mod Quotes
+pub mod Cases

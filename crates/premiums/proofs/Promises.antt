@@ -1,0 +1,44 @@
+-- What a premium question promises, from what the rating lookup does. Assumes nothing.
+use mathlib.Core.Path.{_≡_, refl, sym, ap, _∙_}
+use mathlib.Core.List.{List, [], _∷_}
+use Prim.Native.Nat.{ℕ}
+use lib.ListN.{length}
+use lib.IntN.{ℤ}
+use Rattle.base.specs.Lists.{some?}
+use Rattle.tree.specs.Questions.{ratingOf}
+use Rattle.table.specs.Preparing.{Prepared}
+use Rattle.answers.specs.Reading.{Reading}
+use Rattle.answers.specs.Answers.{outcome, SameAt}
+use Rattle.answers.specs.Promises.{Answers, Gives, Few, Local, Right}
+use Rattle.answers.specs.Steps.{rating}
+use Rattle.answers.specs.declared.Answer.{Answer}
+use Rattle.premiums.specs.Quotes.{priceOf, price, quoteOf, quoteTo}
+use Rattle.premiums.specs.declared.Quote.{Quote}
+use Rattle.premiums.proofs.Theorems.{price-numbers}
+
+-- the lookup's answer is a, and the quote r
+module _ (t rates : List ℕ) (v d : ℕ) (sum : ℤ) (a : Answer) (r : Quote) where
+  abbrev program : ℕ → Reading
+  program len = rating len v d
+
+  abbrev pub Looked : Type 0
+  Looked = Answers program t a × (Gives (0 ∷ 7 ∷ 8 ∷ 9 ∷ []) a × (Few 10 a × (Local program t a × Right (λ ps. ratingOf ps v d) t a)))
+
+  abbrev pub Promised : Type 0
+  Promised = (r ≡ quoteTo t rates v d sum) × (Gives (0 ∷ 7 ∷ 8 ∷ 9 ∷ 11 ∷ 12 ∷ []) (r .answer) × (Few 10 (r .answer) × (((u : List ℕ) → length u ≡ length t → SameAt (r .answer) t u → quoteTo u rates v d sum ≡ r) × ((ps : List ℕ) → Prepared ps t → price r ≡ priceOf rates sum (ratingOf ps v d)))))
+
+  pub promised : Looked → r ≡ quoteOf rates sum a → Promised
+  unfolding quoteTo some?
+  promised (answers, (numbers, (few, (local, right)))) q = (
+    q ∙ ap (quoteOf rates sum) answers,
+    (
+      rw q (price-numbers rates sum (outcome a) (0 ∷ 7 ∷ 8 ∷ 9 ∷ []) refl numbers),
+      (
+        rw q few,
+        (
+          λ u l s. ap (quoteOf rates sum) (local u l (rw q at s)) ∙ sym q,
+          λ ps p. ap price q ∙ ap (priceOf rates sum) (right ps p),
+        ),
+      ),
+    ),
+  )
