@@ -108,5 +108,6 @@ pub extern "C" fn tantsheko_premium(
     ensures cents { λ _. ⌜ now (cents .exit) ≡ quoteTo (now (table .entry)) (now (rates .entry)) v d sum .cents .0 ⌝ }
 {
     let premium = premiums::premium_words(table, rates, Node(v), d, Sum(sum), answer);
-    *cents = premium.0;
+    let amount = premium.0;
+    *cents = amount;
 }
