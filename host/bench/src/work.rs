@@ -85,7 +85,11 @@ fn question_times(
 }
 
 /// Both ways of the premium, at the levels of a lookup: a rate for each entry, and a sum of any size for each question.
-fn premium_times(table: &Table, asked: &[(u32, u32)], mut below: impl FnMut(usize) -> u32) -> [f64; 2] {
+fn premium_times(
+    table: &Table,
+    asked: &[(u32, u32)],
+    mut below: impl FnMut(usize) -> u32,
+) -> [f64; 2] {
     let words = table.words();
     let rates: Vec<u32> = (0..table.entries()).map(|_| below(1_000_001)).collect();
     let sums: Vec<(u32, u32, i64)> = asked

@@ -21,16 +21,19 @@ pub struct Quote {
 
 impl Quote {
     /// The class and the premium in cents, or why there is none.
+    #[inline]
     pub fn result(&self) -> Result<(u32, i64), Refusal> {
         self.answer.result().map(|class| (class, self.cents))
     }
 
     /// The answer without the money.
+    #[inline]
     pub fn answer(&self) -> &Answer {
         &self.answer
     }
 
     /// The premium in cents; 0 for a refusal.
+    #[inline]
     pub fn cents(&self) -> i64 {
         self.cents
     }
@@ -40,23 +43,24 @@ impl Table {
     /// The premium of a sum insured for v at rating level d: `rates` has one for each entry, per million.
     #[inline]
     pub fn premium(&self, rates: &[u32], v: u32, d: u32, sum: i64) -> Quote {
-        let mut quote = MaybeUninit::<Quote>::uninit();
-        let words = self.words();
-        let at = quote.as_mut_ptr();
-        // SAFETY: each pointer and length are a slice's, and the question writes the answer and the cents.
-        unsafe {
+        // The answer is a local of its own: the compiler then has it written where the quote is wanted, and copies nothing.
+        let mut answer = MaybeUninit::uninit();
+        let mut cents = 0;
+        // SAFETY: each pointer and length are a slice's, and the question writes every word of its answer.
+        let answer = unsafe {
             ffi::tantsheko_premium(
-                words.as_ptr(),
-                words.len(),
+                self.words().as_ptr(),
+                self.words().len(),
                 rates.as_ptr(),
                 rates.len(),
                 v,
                 d,
                 sum,
-                &raw mut (*at).answer,
-                &raw mut (*at).cents,
+                answer.as_mut_ptr(),
+                &mut cents,
             );
-            quote.assume_init()
-        }
+            answer.assume_init()
+        };
+        Quote { answer, cents }
     }
 }

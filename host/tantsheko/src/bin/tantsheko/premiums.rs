@@ -58,7 +58,13 @@ pub fn premium(args: &[String]) -> Done {
         Ok((class, cents)) => say(&format!("{class},{cents}\n{read}")),
         Err(refusal) => {
             say(&read)?;
-            Err(Stop::Fault(why(&table, (list, &rates), entry, level, refusal)))
+            Err(Stop::Fault(why(
+                &table,
+                (list, &rates),
+                entry,
+                level,
+                refusal,
+            )))
         }
     }
 }
@@ -92,7 +98,8 @@ fn row(out: &mut Vec<u8>, quote: &Quote) {
 pub fn premiums(args: &[String]) -> Done {
     let [path, list, level] = args else {
         return Err(Stop::Usage(
-            "premiums takes TABLE RATES LEVEL, with `entry,sum` lines on standard input".to_string(),
+            "premiums takes TABLE RATES LEVEL, with `entry,sum` lines on standard input"
+                .to_string(),
         ));
     };
     let level = number(level, "LEVEL")?;
