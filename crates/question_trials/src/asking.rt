@@ -1,8 +1,8 @@
 // One question to the engine, held to what it is to answer.
-use crate::tally::Tally;
 use answers::Answer;
 use base::Node;
 use plain_steps::Walk;
+use samples::tally::Tally;
 use samples::words::wide;
 
 pub(crate) const LEVEL: usize = 0;

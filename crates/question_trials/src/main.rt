@@ -5,18 +5,17 @@ mod damaged;
 mod levels;
 mod pairs;
 mod printed;
-mod tally;
 
 use crate::damaged::damaged;
 use crate::levels::levels;
 use crate::pairs::pairs;
 use crate::printed::say;
-use crate::tally::Tally;
 use plain_steps::shape_strings;
 use samples::cases::GROWN;
 use samples::cases::KINDS;
 use samples::cases::case_at;
 use samples::cases::count_at;
+use samples::tally::Tally;
 use samples::words::add;
 use samples::words::times;
 

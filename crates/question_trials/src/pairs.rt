@@ -2,11 +2,11 @@
 use crate::asking::ANCESTRY;
 use crate::asking::BRANCH;
 use crate::asking::ask;
-use crate::tally::Tally;
 use samples::climbing::above;
 use samples::climbing::climbs;
 use samples::seeds::next;
 use samples::seeds::pick;
+use samples::tally::Tally;
 use samples::words::TOP;
 use samples::words::add;
 use samples::words::get;

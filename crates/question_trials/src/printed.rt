@@ -1,6 +1,6 @@
 // A line of the output: a name, the number of questions and the number of differences.
-use crate::tally::Tally;
 use samples::fields::field;
+use samples::tally::Tally;
 use samples::words::less;
 
 fn name(line: usize) {

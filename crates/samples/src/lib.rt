@@ -6,4 +6,5 @@ mod damage;
 pub mod fields;
 mod lists;
 pub mod seeds;
+pub mod tally;
 pub mod words;

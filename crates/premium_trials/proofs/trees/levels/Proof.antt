@@ -1,0 +1,29 @@
+-- `trees::levels` is safe and ends. Assumes nothing.
+use Prim.Native.Nat.{_-_}
+use native.Mathlib.Omega.{arith}
+use Rattle.premium_trials.proofs.trees.levels.Statement.{statement}
+use Rattle.premium_trials.proofs.trees.levels.Tie as tie
+
+abbrev Inv-loop : tie.InvT-loop
+Inv-loop table strings rates parents n v depth count tally₀ d₀ tally d = Unit {0}
+
+abbrev μ-loop : tie.MeasureT-loop
+μ-loop table strings rates parents n v depth count tally₀ d₀ tally d = count - d
+
+pub levels-spec : {M : Type 1} → statement M
+levels-spec =
+    tie.close
+    (tie.spec
+    Inv-loop
+    μ-loop
+    (λ c κs. tt)
+    (λ c κs. tt)
+    (λ c κs. tt)
+    (λ c. tt)
+    (λ c κs. tt)
+    (λ c κs. tt)
+    (λ c κs. tt)
+    (λ c. omega arith)
+    (λ c. omega arith)
+    (λ c. tt)
+    (λ c. tt))
