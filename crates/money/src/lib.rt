@@ -35,11 +35,12 @@ pub fn refused(number: u32, word: u32) -> Price
 pub fn priced(class: u32, rate: u32, sum: Sum) -> Price
     ensures { λ r. ⌜ r ≡ priced class rate (sum .0) ⌝ }
 {
-    let size = size(sum);
-    if MOST_RATE < rate {
+    let over = MOST_RATE < rate;
+    let outside = MOST_SUM < size(sum);
+    if over {
         return refused(BAD_RATE, 0);
     }
-    if MOST_SUM < size {
+    if outside {
         return refused(BAD_SUM, 0);
     }
     let cents = rounding::premium(sum, rate);
