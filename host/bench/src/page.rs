@@ -118,8 +118,9 @@ pub fn page(rows: &[Row]) -> String {
 
 Written by the benchmark itself (`host/run bench`). Every figure is a median of runs that take turns in one process:
 the proved code through its C interface, and the same work by hand in Rust (`host/reference`), cell list included. Trees
-have their numbers permuted. Preparing is in nanoseconds an entry, a question in nanoseconds. A plain climb and binary
-lifting answer the level lookup only, and list no cells.
+have their numbers permuted. Preparing is in nanoseconds an entry, a question in nanoseconds. The premium is asked at the
+levels of the level lookup, with a rate for each entry and sums of both signs. A plain climb and binary lifting answer the
+level lookup only, and list no cells.
 
 Machine: {}.
 

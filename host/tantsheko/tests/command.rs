@@ -178,7 +178,7 @@ fn one_premium() {
         "7",
         "8",
         "25",
-        "entry 7 has depth 7, so it has no class at level 8",
+        "entry 7 has depth 7, so it has no class at level 8: ask a level up to 7",
     );
     fails(
         "7",
@@ -190,15 +190,12 @@ fn one_premium() {
         "7",
         "5",
         "2000000001",
-        "class 5 has no rate: rates has 5 lines, and the rate of class 5 stands on line 6",
+        "class 5 has no rate: rates has 5 lines, and the rate belongs on line 6: add what is missing",
     );
     for sum in ["2000000001", "-2000000001", "99999999999999999999"] {
-        fails(
-            "7",
-            "1",
-            sum,
-            "a sum insured is from -2000000000 to 2000000000",
-        );
+        let text =
+            format!("{sum} is out of range: a sum insured is from -2000000000 to 2000000000");
+        fails("7", "1", sum, &text);
     }
 }
 

@@ -92,7 +92,7 @@ pub fn of(command: &str) -> String {
     }
     let mut text = String::from("tantsheko COMMAND ..\n\n");
     for (name, args, line, _) in COMMANDS {
-        text.push_str(&format!("  {:42} {line}\n", format!("{name} {args}")));
+        text.push_str(&format!("  {:47} {line}\n", format!("{name} {args}")));
     }
     text.push_str("\n`tantsheko COMMAND --help` says more. Status: 0 done, 1 refused or a fault, 2 a wrong call.\n");
     text

@@ -24,7 +24,7 @@ pub fn refused(table: &Table, question: &str, a: u32, b: u32, refusal: Refusal) 
                 format!("entry {v} has depth {depth}, so {b} climbs lead past the top")
             }
             Some(depth) if question == "premium" => {
-                format!("entry {v} has depth {depth}, so it has no class at level {b}")
+                format!("entry {v} has depth {depth}, so it has no class at level {b}: ask a level up to {depth}")
             }
             Some(depth) => format!("entry {v} has depth {depth}, so it has no class at depth {b}"),
             None => refusal.to_string(),
@@ -44,11 +44,24 @@ fn ask(table: &Table, question: &str, a: u32, b: u32) -> Answer {
     }
 }
 
+/// The arguments without --cells, and whether it was among them.
+pub fn without_cells(args: &[String]) -> (Vec<&String>, bool) {
+    let words: Vec<&String> = args.iter().filter(|w| *w != "--cells").collect();
+    let asked = words.len() < args.len();
+    (words, asked)
+}
+
+/// The line of cells, where it is asked for.
+pub fn cells_line(answer: &Answer, asked: bool) -> String {
+    if !asked {
+        return String::new();
+    }
+    let cells: Vec<String> = answer.cells().iter().map(u32::to_string).collect();
+    format!("cells {}\n", cells.join(" "))
+}
+
 pub fn one(question: &str, args: &[String]) -> Done {
-    let mut words: Vec<&String> = args.iter().collect();
-    let before = words.len();
-    words.retain(|w| *w != "--cells");
-    let cells = words.len() < before;
+    let (words, cells) = without_cells(args);
     let [path, first, second] = words[..] else {
         let (a, b) = called(question);
         return Err(Stop::Usage(format!("{question} takes TABLE {a} {b}")));
@@ -57,12 +70,7 @@ pub fn one(question: &str, args: &[String]) -> Done {
     let (a, b) = (number(first, names.0)?, number(second, names.1)?);
     let table = open(path)?;
     let answer = ask(&table, question, a, b);
-    let list: Vec<String> = answer.cells().iter().map(u32::to_string).collect();
-    let read = if cells {
-        format!("cells {}\n", list.join(" "))
-    } else {
-        String::new()
-    };
+    let read = cells_line(&answer, cells);
     match answer.result() {
         Ok(result) if question == "above" => say(&format!(
             "{}\n{read}",

@@ -1,72 +1,59 @@
 //! Premiums: one, and a stream of them.
 
-use crate::one::refused;
+use crate::one::{cells_line, refused, without_cells};
 use crate::stream::{number as field, put, stream};
 use crate::{number, open, say, text_of, Done, Stop};
 use tantsheko::rates;
-use tantsheko::{Quote, Refusal, Table, MOST_RATE};
+use tantsheko::{Quote, Refusal, MOST_RATE};
 
 /// A list of rates from its file.
 fn rates_of(path: &str) -> Result<Vec<u32>, Stop> {
     rates::read(&text_of(path)?).map_err(|e| Stop::Fault(format!("{path}: {e}")))
 }
 
-/// Why there is no premium, in words, with what to do.
-fn why(table: &Table, rates: (&str, &[u32]), entry: u32, level: u32, refusal: Refusal) -> String {
-    let (path, rates) = rates;
-    match (refusal, table.rating(entry, level).result()) {
-        (Refusal::BadRate, Ok(class)) => match rates.get(class as usize) {
-            Some(rate) => format!(
-                "class {class} has rate {rate}, and a rate is at most {MOST_RATE} per million: mend line {} of {path}",
-                u64::from(class) + 1
-            ),
-            None => format!(
-                "class {class} has no rate: {path} has {} lines, and the rate of class {class} stands on line {}",
-                rates.len(),
-                u64::from(class) + 1
-            ),
-        },
-        _ => refused(table, "premium", entry, level, refusal),
+/// Why a class has no rate in the file of rates, with what to do.
+fn unrated(path: &str, rates: &[u32], class: u32) -> String {
+    let line = u64::from(class) + 1;
+    match rates.get(class as usize) {
+        Some(rate) => format!(
+            "class {class} has rate {rate}, and a rate is at most {MOST_RATE} per million: mend line {line} of {path}"
+        ),
+        None => format!(
+            "class {class} has no rate: {path} has {} lines, and the rate belongs on line {line}: add what is missing",
+            rates.len()
+        ),
     }
 }
 
 pub fn premium(args: &[String]) -> Done {
-    let mut words: Vec<&String> = args.iter().collect();
-    words.retain(|w| *w != "--cells");
-    let cells = words.len() < args.len();
+    let (words, cells) = without_cells(args);
     let [path, list, entry, level, sum] = words[..] else {
         return Err(Stop::Usage(
             "premium takes TABLE RATES ENTRY LEVEL SUM".to_string(),
         ));
     };
     let (entry, level) = (number(entry, "ENTRY")?, number(level, "LEVEL")?);
-    let sum = rates::sum(sum.as_bytes()).ok_or_else(|| {
+    let asked = rates::sum(sum.as_bytes()).ok_or_else(|| {
         Stop::Usage(format!(
             "SUM is a whole number, as 25 or -25, and not `{sum}`"
         ))
     })?;
     let table = open(path)?;
     let rates = rates_of(list)?;
-    let quote = table.premium(&rates, entry, level, sum);
-    let read = if cells {
-        let list: Vec<String> = quote.answer().cells().iter().map(u32::to_string).collect();
-        format!("cells {}\n", list.join(" "))
-    } else {
-        String::new()
+    let quote = table.premium(&rates, entry, level, asked);
+    let read = cells_line(quote.answer(), cells);
+    let refusal = match quote.result() {
+        Ok((class, cents)) => return say(&format!("{class},{cents}\n{read}")),
+        Err(refusal) => refusal,
     };
-    match quote.result() {
-        Ok((class, cents)) => say(&format!("{class},{cents}\n{read}")),
-        Err(refusal) => {
-            say(&read)?;
-            Err(Stop::Fault(why(
-                &table,
-                (list, &rates),
-                entry,
-                level,
-                refusal,
-            )))
-        }
-    }
+    say(&read)?;
+    Err(Stop::Fault(
+        match (refusal, table.rating(entry, level).result()) {
+            (Refusal::BadRate, Ok(class)) => unrated(list, &rates, class),
+            (Refusal::BadSum, _) => format!("{sum} is out of range: {refusal}"),
+            _ => refused(&table, "premium", entry, level, refusal),
+        },
+    ))
 }
 
 /// The entry and the sum of a line.
