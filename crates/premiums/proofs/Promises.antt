@@ -2,17 +2,16 @@
 use mathlib.Core.Path.{_≡_, refl, sym, ap, _∙_}
 use mathlib.Core.List.{List, [], _∷_}
 use Prim.Native.Nat.{ℕ}
-use lib.ListN.{length}
 use lib.IntN.{ℤ}
 use Rattle.base.specs.Lists.{some?}
 use Rattle.tree.specs.Questions.{ratingOf}
-use Rattle.table.specs.Preparing.{Prepared}
 use Rattle.answers.specs.Reading.{Reading}
-use Rattle.answers.specs.Answers.{outcome, SameAt}
+use Rattle.answers.specs.Answers.{outcome}
 use Rattle.answers.specs.Promises.{Answers, Gives, Few, Local, Right}
 use Rattle.answers.specs.Steps.{rating}
 use Rattle.answers.specs.declared.Answer.{Answer}
 use Rattle.premiums.specs.Quotes.{priceOf, price, quoteOf, quoteTo}
+use Rattle.premiums.specs.Promises.{Local as LocalQuote, Right as RightQuote}
 use Rattle.premiums.specs.declared.Quote.{Quote}
 use Rattle.premiums.proofs.Theorems.{price-numbers}
 
@@ -25,7 +24,12 @@ module _ (t rates : List ℕ) (v d : ℕ) (sum : ℤ) (a : Answer) (r : Quote) w
   Looked = Answers program t a × (Gives (0 ∷ 7 ∷ 8 ∷ 9 ∷ []) a × (Few 10 a × (Local program t a × Right (λ ps. ratingOf ps v d) t a)))
 
   abbrev pub Promised : Type 0
-  Promised = (r ≡ quoteTo t rates v d sum) × (Gives (0 ∷ 7 ∷ 8 ∷ 9 ∷ 11 ∷ 12 ∷ []) (r .answer) × (Few 10 (r .answer) × (((u : List ℕ) → length u ≡ length t → SameAt (r .answer) t u → quoteTo u rates v d sum ≡ r) × ((ps : List ℕ) → Prepared ps t → price r ≡ priceOf rates sum (ratingOf ps v d)))))
+  Promised =
+      (r ≡ quoteTo t rates v d sum)
+      × (Gives (0 ∷ 7 ∷ 8 ∷ 9 ∷ 11 ∷ 12 ∷ []) (r .answer)
+      × (Few 10 (r .answer)
+      × (LocalQuote (λ u. quoteTo u rates v d sum) t r
+      × RightQuote (λ ps. priceOf rates sum (ratingOf ps v d)) t r)))
 
   pub promised : Looked → r ≡ quoteOf rates sum a → Promised
   unfolding quoteTo some?

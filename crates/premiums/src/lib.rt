@@ -1,13 +1,11 @@
 // The premium of a sum insured: the class by the rating lookup, its rate from a list of rates, and the cents.
 ghost use mathlib.Core.Path.{_≡_};
-ghost use mathlib.Core.List.{List, [], _∷_};
-ghost use Prim.Native.Nat.{ℕ};
-ghost use lib.ListN.{length};
+ghost use mathlib.Core.List.{[], _∷_};
 ghost use Rattle.tree.specs.Questions.{ratingOf};
-ghost use Rattle.table.specs.Preparing.{Prepared};
-ghost use Rattle.answers.specs.Answers.{answerWords, SameAt};
+ghost use Rattle.answers.specs.Answers.{answerWords};
 ghost use Rattle.answers.specs.Promises.{Gives, Few};
-ghost use Rattle.premiums.specs.Quotes.{classPrice, priceOf, price, quoteTo};
+ghost use Rattle.premiums.specs.Promises.{Local, Right};
+ghost use Rattle.premiums.specs.Quotes.{classPrice, priceOf, quoteTo};
 use answers::ANSWER_WORDS;
 use answers::Answer;
 use base::Cents;
@@ -32,8 +30,8 @@ pub fn premium(table: &[u32], rates: &[u32], v: Node, d: u32, sum: Sum) -> Quote
     ensures answer { λ r. ⌜ r ≡ quoteTo (now (table .entry)) (now (rates .entry)) (v .0) d (sum .0) ⌝ }
     ensures numbers { λ r. ⌜ Gives (0 ∷ 7 ∷ 8 ∷ 9 ∷ 11 ∷ 12 ∷ []) (r .answer) ⌝ }
     ensures few { λ r. ⌜ Few 10 (r .answer) ⌝ }
-    ensures local { λ r. ⌜ ((u : List ℕ) → length u ≡ length (now (table .entry)) → SameAt (r .answer) (now (table .entry)) u → quoteTo u (now (rates .entry)) (v .0) d (sum .0) ≡ r) ⌝ }
-    ensures right { λ r. ⌜ ((ps : List ℕ) → Prepared ps (now (table .entry)) → price r ≡ priceOf (now (rates .entry)) (sum .0) (ratingOf ps (v .0) d)) ⌝ }
+    ensures local { λ r. ⌜ Local (λ t. quoteTo t (now (rates .entry)) (v .0) d (sum .0)) (now (table .entry)) r ⌝ }
+    ensures right { λ r. ⌜ Right (λ ps. priceOf (now (rates .entry)) (sum .0) (ratingOf ps (v .0) d)) (now (table .entry)) r ⌝ }
 {
     let found = rating(table, v, d);
     let cells = found.cells;
