@@ -18,10 +18,6 @@ pub size-sign : (b : Bool) (n : ℕ) → natAbs (withSign b n) ≡ n
 size-sign false n = refl
 size-sign true n = size-neg (pos n)
 
-pub size-times : (s : ℤ) (r : ℕ) → natAbs (s *ℤ pos r) ≡ natAbs s * r
-size-times (pos n) r = refl
-size-times (negsuc n) r = size-neg (pos (suc n * r))
-
 pub times-neg : (n : ℕ) (z : ℤ) → pos n *ℤ negℤ z ≡ negℤ (pos n *ℤ z)
 times-neg n (pos zero) = rw (*ℤ-zero (pos n))
 times-neg n (pos (suc m)) = refl

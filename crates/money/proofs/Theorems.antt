@@ -9,7 +9,7 @@ use lib.Dec.{leb, leb·suc-suc, leb→le, le→leb}
 use lib.IntN.{ℤ, pos, negsuc, negℤ, natAbs, _-ℤ_, _*ℤ_, negℤ-negℤ, negℤ-+ℤ}
 use lib.Signed.{leZ, _≤ℤ_}
 use Rattle.base.specs.Amounts.{centParts, mostRate, mostSum, legalSum}
-use Rattle.money.specs.Premium.{halfRule, nearest, negative, withSign, premium}
+use Rattle.money.specs.Premium.{halfRule, nearest, negative, premium}
 use Rattle.money.specs.Distance.{NearestCents}
 use Rattle.money.proofs.Halves.{nearest-near, nearest-side, nearest-only, nearest-rises, nearest-none, nearest-most}
 use Rattle.money.proofs.Differences.{size-neg, size-sign, times-neg, difference, difference-neg}

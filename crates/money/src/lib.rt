@@ -4,6 +4,7 @@ mod signs;
 
 ghost use mathlib.Core.Path.{_≡_};
 ghost use Rattle.money.specs.Prices.{refused, priced};
+use crate::signs::size;
 use base::Cents;
 use base::Sum;
 use base::amounts::MOST_RATE;
@@ -11,7 +12,6 @@ use base::amounts::MOST_SUM;
 use base::numbers::ACCEPTED;
 use base::numbers::BAD_RATE;
 use base::numbers::BAD_SUM;
-pub use signs::size;
 
 // The number of an answer, the class or what the refusal names, and the premium.
 pub struct Price {

@@ -1,17 +1,15 @@
 // Sums by sign and size, and the cents of a premium by plain arithmetic.
-use base::Sum;
-
 pub(crate) const MOST_SUM: usize = 2000000000;
 
 pub(crate) const MOST_RATE: usize = 1000000;
 
 // The signed number, or the least that there is where the size is more than one has.
-pub(crate) fn signed(negative: bool, size: usize) -> Sum {
+pub(crate) fn signed(negative: bool, size: usize) -> i64 {
     if 9223372036854775807 < size {
-        return Sum(-9223372036854775807 - 1);
+        return -9223372036854775807 - 1;
     }
     let x = size as i64;
-    if negative { Sum(0 - x) } else { Sum(x) }
+    if negative { 0 - x } else { x }
 }
 
 // Size times rate, 0 where either is over its limit.

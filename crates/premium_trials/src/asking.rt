@@ -6,6 +6,7 @@ use crate::amounts::product;
 use crate::amounts::signed;
 use answers::Answer;
 use base::Node;
+use base::Sum;
 use plain_steps::Walk;
 use samples::tally::Tally;
 use samples::words::get;
@@ -80,7 +81,8 @@ fn ask(
     size: usize,
     looked: Looked,
 ) -> Tally {
-    let given = premiums::premium(table, rates, Node(v), d, signed(negative, size));
+    let sum = signed(negative, size);
+    let given = premiums::premium(table, rates, Node(v), d, Sum(sum));
     let answer = given.answer;
     let money = given.cents;
     if !walked(answer, plain_steps::level(table, strings, v, d), looked) {
@@ -94,7 +96,7 @@ fn ask(
     if wide(answer.word) != want.word {
         return Tally::wrong();
     }
-    if money.0 != due.0 {
+    if money.0 != due {
         return Tally::wrong();
     }
     Tally::right()

@@ -38,12 +38,13 @@ fn questions(
     strings: &[u32],
     rates: &[u32],
     m: usize,
+    seed: usize,
     parents: &[u32],
     n: usize,
 ) -> Tally {
     if t <= table.len() {
         if m <= rates.len() {
-            return entries(&table[..t], strings, &rates[..m], parents, n);
+            return entries(&table[..t], strings, &rates[..m], seed, parents, n);
         }
     }
     Tally::wrong()
@@ -63,7 +64,7 @@ fn small_tree(
     let m = rates_of(list, c.n);
     lay(parents, c.n, table, space);
     lay_rates(list, m, i, rates);
-    questions(table, c.table, strings, rates, m, parents, c.n)
+    questions(table, c.table, strings, rates, m, i, parents, c.n)
 }
 
 // Every small tree.

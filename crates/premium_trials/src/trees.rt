@@ -16,6 +16,12 @@ pub(crate) const LISTS: usize = 5;
 
 const SUMS: usize = 9;
 
+// A size of any number of digits, from two draws.
+fn drawn(seed: usize) -> usize {
+    let millions = pick(seed, 2000);
+    millions * 1000000 + pick(next(seed), 1000000)
+}
+
 // Small sums and those at the limits come first, then sums from a seed; each is asked with both signs.
 fn size_at(i: usize, seed: usize) -> usize {
     match i {
@@ -27,7 +33,7 @@ fn size_at(i: usize, seed: usize) -> usize {
         5 => 9223372036854775807,
         6 => 9223372036854775808,
         7 => pick(seed, 1000),
-        _ => pick(next(seed), 2000000001),
+        _ => drawn(seed),
     }
 }
 
@@ -36,6 +42,7 @@ fn sums(
     table: &[u32],
     strings: &[u32],
     rates: &[u32],
+    seed: usize,
     v: usize,
     d: usize,
     looked: Looked,
@@ -43,7 +50,7 @@ fn sums(
     let mut tally = Tally::new();
     let mut i = 0;
     while i < SUMS {
-        let size = size_at(i, next(add(add(v, d), i)));
+        let size = size_at(i, next(add(next(add(seed, v)), d)));
         tally = tally.plus(both(table, strings, rates, v, d, size, looked));
         i += 1;
     }
@@ -66,6 +73,7 @@ fn levels(
     table: &[u32],
     strings: &[u32],
     rates: &[u32],
+    seed: usize,
     parents: &[u32],
     n: usize,
     v: usize,
@@ -75,33 +83,44 @@ fn levels(
     let mut tally = Tally::new();
     let mut d = 0;
     while d < count {
-        tally = tally.plus(sums(table, strings, rates, v, d, looked(parents, v, depth, d)));
+        let found = looked(parents, v, depth, d);
+        tally = tally.plus(sums(table, strings, rates, seed, v, d, found));
         d += 1;
     }
     tally
 }
 
-// A number that is no entry, and a table cut short.
-fn unfound(table: &[u32], strings: &[u32], rates: &[u32], n: usize) -> Tally {
-    let unknown = Looked { number: 7, word: n };
+// A table of no words, and one of four, which has a cell 0 and no more.
+fn cut(table: &[u32], strings: &[u32], rates: &[u32], seed: usize) -> Tally {
     let broken = Looked { number: 9, word: 0 };
     let none: [u32; 0] = [];
-    let cut = sums(&none, strings, rates, 0, 0, broken);
-    sums(table, strings, rates, n, 0, unknown).plus(cut)
+    let tally = sums(&none, strings, rates, seed, 0, 0, broken);
+    if 4 <= table.len() {
+        return tally.plus(sums(&table[..4], strings, rates, seed, 0, 0, broken));
+    }
+    Tally::wrong()
 }
 
-// Every entry, and what is none.
+// A table cut short, and a number that is no entry.
+fn unfound(table: &[u32], strings: &[u32], rates: &[u32], seed: usize, n: usize) -> Tally {
+    let unknown = Looked { number: 7, word: n };
+    let other = sums(table, strings, rates, seed, n, 0, unknown);
+    cut(table, strings, rates, seed).plus(other)
+}
+
+// These, and every entry.
 pub(crate) fn entries(
     table: &[u32],
     strings: &[u32],
     rates: &[u32],
+    seed: usize,
     parents: &[u32],
     n: usize,
 ) -> Tally {
-    let mut tally = unfound(table, strings, rates, n);
+    let mut tally = unfound(table, strings, rates, seed, n);
     let mut v = 0;
     while v < n {
-        tally = tally.plus(levels(table, strings, rates, parents, n, v));
+        tally = tally.plus(levels(table, strings, rates, seed, parents, n, v));
         v += 1;
     }
     tally
@@ -115,13 +134,13 @@ fn rate_at(list: usize, v: usize, seed: usize) -> usize {
     if list < 4 {
         return 1000;
     }
-    let drawn = next(add(seed, v));
-    match pick(drawn, 8) {
+    let draw = next(add(seed, v));
+    match pick(draw, 8) {
         0 => 0,
         1 => 1000000,
         2 => 1000001,
         3 => TOP,
-        _ => pick(next(drawn), 1000001),
+        _ => pick(next(draw), 1000001),
     }
 }
 

@@ -28,8 +28,8 @@ use base::numbers::UNKNOWN;
 
 const HEADER: usize = HEADER_CELLS as usize;
 
-// As `look`, in words of the caller's. The level lookup, the climb and the rating lookup of other languages, and branch, ask here alone, so that the compiler
-// sets the steps in place once and writes each word where it is wanted.
+// As `look`, in words of the caller's. The level lookup, the climb, the rating lookup and the premium of other languages, and branch, ask here alone, so that the
+// compiler sets the steps in place once and writes each word where it is wanted.
 pub fn look_words(table: &[u32], climbs: bool, v: Node, x: u32, words: &mut [u32; ANSWER_WORDS])
     ensures { λ _. ⌜ now (words .exit) ≡ answerWords (answerTo (now (table .entry)) (opened (length (now (table .entry))) (fromEntry climbs (v .0) x))) ⌝ }
 {

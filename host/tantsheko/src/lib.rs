@@ -8,6 +8,7 @@ pub mod list;
 mod premium;
 pub mod rates;
 mod refusal;
+pub mod sums;
 mod table;
 
 pub use premium::{Quote, MOST_RATE, MOST_SUM};

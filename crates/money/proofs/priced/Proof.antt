@@ -1,7 +1,5 @@
 -- `priced` meets its contract. Assumes nothing.
 use mathlib.Core.Path.{sym, ap, _∙_}
-use Prim.Native.Nat.{_≤_}
-use lib.IntN.{natAbs}
 use borrow.Author.Needs.{needs}
 use borrow.Author.Tests.{ltb-true, ltb-false}
 use Rattle.base.specs.Numbers.{accepted}
@@ -34,7 +32,7 @@ premium-requires c κs =
 returns-3 : tie.Need-returns-3
 returns-3 c =
     let args = c .before .before .before .before .args in
-    let ranges = premium-requires (c .before) (tt) in
+    let ranges = premium-requires (c .before) tt in
     ap (costing (accepted (args .class))) (c .premium .ensures) ∙ sym (priced-within (args .class) (args .rate) (args .sum .0) (ranges .1) (ranges .0))
 
 pub priced-spec : {M : Type 1} → statement M

@@ -8,13 +8,15 @@ use Rattle.premiums.proofs.premium_words.Tie as tie
 returns : tie.Need-returns
 unfolding quoteTo
 returns c =
-    let asked = c .before .before .before .before in
-    quote-words _ _ _ (c .before .after-lookup .result) _ (asked .rating-words .ensures) (c .before .after-lookup .ensures)
+    let rated = c .before .before .before .before in
+    quote-words _ _ _ (c .before .after-lookup .result) _ (rated .before .before .rating-words .ensures) (c .before .after-lookup .ensures _ (rated .rate-at .ensures))
 
 pub premium-words-spec : {M : Type 1} → statement M
 premium-words-spec =
     tie.close
     (tie.spec
+    (λ c κs. search needs)
+    (λ c. search needs)
     (λ c κs. search needs)
     (λ c. search needs)
     (λ c. search needs)

@@ -5,10 +5,10 @@ use Rattle.premium_trials.proofs.trees.entries.Statement.{statement}
 use Rattle.premium_trials.proofs.trees.entries.Tie as tie
 
 abbrev Inv-loop : tie.InvT-loop
-Inv-loop table strings rates parents n tally₀ v₀ tally v = Unit {0}
+Inv-loop table strings rates seed parents n tally₀ v₀ tally v = Unit {0}
 
 abbrev μ-loop : tie.MeasureT-loop
-μ-loop table strings rates parents n tally₀ v₀ tally v = n - v
+μ-loop table strings rates seed parents n tally₀ v₀ tally v = n - v
 
 pub entries-spec : {M : Type 1} → statement M
 entries-spec =

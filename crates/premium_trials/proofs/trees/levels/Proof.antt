@@ -5,10 +5,10 @@ use Rattle.premium_trials.proofs.trees.levels.Statement.{statement}
 use Rattle.premium_trials.proofs.trees.levels.Tie as tie
 
 abbrev Inv-loop : tie.InvT-loop
-Inv-loop table strings rates parents n v depth count tally₀ d₀ tally d = Unit {0}
+Inv-loop table strings rates seed parents n v depth count tally₀ d₀ tally d = Unit {0}
 
 abbrev μ-loop : tie.MeasureT-loop
-μ-loop table strings rates parents n v depth count tally₀ d₀ tally d = count - d
+μ-loop table strings rates seed parents n v depth count tally₀ d₀ tally d = count - d
 
 pub levels-spec : {M : Type 1} → statement M
 levels-spec =

@@ -48,10 +48,14 @@ pub fn open(path: &str) -> Result<Table, Stop> {
     file::read(Path::new(path)).map_err(|e| Stop::Fault(format!("{path} {e}")))
 }
 
-/// A text from its file.
+/// A text from its file, without the mark that some editors put first.
 pub fn text_of(path: &str) -> Result<String, Stop> {
-    std::fs::read_to_string(path)
-        .map_err(|e| Stop::Fault(format!("{path} cannot be read: {}", file::reason(&e))))
+    let text = std::fs::read_to_string(path)
+        .map_err(|e| Stop::Fault(format!("{path} cannot be read: {}", file::reason(&e))))?;
+    match text.strip_prefix('\u{feff}') {
+        Some(rest) => Ok(rest.to_string()),
+        None => Ok(text),
+    }
 }
 
 /// A number of 32 bits.

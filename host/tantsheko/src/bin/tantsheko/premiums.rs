@@ -3,8 +3,7 @@
 use crate::one::{cells_line, refused, without_cells};
 use crate::stream::{number as field, put, stream};
 use crate::{number, open, say, text_of, Done, Stop};
-use tantsheko::rates;
-use tantsheko::{Quote, Refusal, MOST_RATE};
+use tantsheko::{rates, sums, Quote, Refusal, MOST_RATE};
 
 /// A list of rates from its file.
 fn rates_of(path: &str) -> Result<Vec<u32>, Stop> {
@@ -33,7 +32,7 @@ pub fn premium(args: &[String]) -> Done {
         ));
     };
     let (entry, level) = (number(entry, "ENTRY")?, number(level, "LEVEL")?);
-    let asked = rates::sum(sum.as_bytes()).ok_or_else(|| {
+    let asked = sums::read(sum.as_bytes()).ok_or_else(|| {
         Stop::Usage(format!(
             "SUM is a whole number, as 25 or -25, and not `{sum}`"
         ))
@@ -59,7 +58,7 @@ pub fn premium(args: &[String]) -> Done {
 /// The entry and the sum of a line.
 fn question(line: &[u8]) -> Option<(u32, i64)> {
     let comma = line.iter().position(|&b| b == b',')?;
-    Some((field(&line[..comma])?, rates::sum(&line[comma + 1..])?))
+    Some((field(&line[..comma])?, sums::read(&line[comma + 1..])?))
 }
 
 /// What stands behind a question's line.
