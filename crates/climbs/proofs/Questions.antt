@@ -19,6 +19,7 @@ use Rattle.tree.specs.Forest.{size, position}
 use Rattle.tree.specs.Level.{Ancestor, levelAncestor}
 use Rattle.tree.specs.Questions.{known, classOf, ratingOf, climbOf, ancestryOf, branchOf}
 use Rattle.tree.proofs.Depths.{up-some, up-none, level-in, level-deep, level-defined}
+use Rattle.tree.proofs.Meanings.{rating-class}
 use Rattle.tree.proofs.Intervals.{depth-less, interval}
 use Rattle.tree.proofs.Ancestry.{on-climb, towards, towards-none, strictly-deeper}
 use Rattle.table.specs.Preparing.{Prepared}
@@ -76,8 +77,8 @@ module _ (ps t : List ℕ) (p : Prepared ps t) where
       (λ h b. (b, sym (level-in ps (small ps t p) (tree ps t p) v d b)))
 
   pub rating-right : (v d : ℕ) → run t (rating (length t) v d) ≡ ratingOf ps v d
-  unfolding rating ratingOf
-  rating-right v d = level-right v d
+  unfolding rating
+  rating-right v d = level-right v d ∙ sym (rating-class ps v d)
 
   -- climb: so many parents up
   pub climb-right : (v k : ℕ) → run t (climbing (length t) v k) ≡ climbOf ps v k

@@ -96,11 +96,8 @@ pub nearest-none : nearest 0 ≡ 0
 unfolding nearest
 nearest-none = refl
 
-most-parts : (n r : ℕ) → n ≤ mostSum → r ≤ mostRate → n * r ≤ mostSum * mostRate
-most-parts n r h k = mul-le-mul h k
-
 pub parts-fit : (n r : ℕ) → n ≤ mostSum → r ≤ mostRate → n * r ≤ 2000000000000000
-parts-fit n r h k = most-parts n r h k
+parts-fit n r h k = mul-le-mul h k
 
 pub nearest-most : (n r : ℕ) → n ≤ mostSum → r ≤ mostRate → nearest (n * r) ≤ 200000000000
 unfolding nearest

@@ -13,11 +13,17 @@ use Rattle.base.specs.Numbers.{Outcome, accepted}
 use Rattle.base.specs.Amounts.{mostRate, mostSum}
 use Rattle.base.proofs.Counts.{times, times-append}
 use Rattle.base.proofs.Filters.{has-times, times-has}
+use Rattle.tree.specs.Level.{LevelAncestor}
+use Rattle.tree.proofs.Meanings.{rating-class, class-ancestor}
+use Rattle.table.specs.Preparing.{Prepared}
+use Rattle.answers.specs.Answers.{answerTo}
+use Rattle.climbs.proofs.TableWords.{small, tree}
+use Rattle.climbs.proofs.Questions.{rating-right}
 use Rattle.money.specs.Premium.{premium}
 use Rattle.money.specs.Prices.{costing}
 use Rattle.money.specs.declared.Price.{Price}
 use Rattle.money.proofs.Prices.{priced-over, priced-outside, priced-within}
-use Rattle.premiums.specs.Quotes.{priceOf}
+use Rattle.premiums.specs.Quotes.{priceOf, price, quoteTo}
 use Rattle.premiums.specs.Cases.{Rated, Case, unfound, past, over, outside, paid}
 use Rattle.premiums.proofs.Pricing.{class-past, class-listed, price-unfound, price-found}
 
@@ -79,3 +85,11 @@ module _ (rates : List ℕ) (sum : ℤ) (o : Outcome) where
 
     pub price-numbers : has (ns ++ (11 ∷ 12 ∷ [])) (priceOf rates sum o .number) ≡ true
     price-numbers = case-numbers (priceOf rates sum o) cases
+
+-- on a table prepared from a list: of every entry with a class u by climbing whose rate is legal, and of every legal sum, the premium is given, at u's rate
+pub prepared-premium : (ps t rates : List ℕ) (sum : ℤ) (v d u : ℕ) → Prepared ps t → LevelAncestor ps v d u → u < length rates → getD rates u 0 ≤ mostRate → natAbs sum ≤ mostSum
+    → price (quoteTo t rates v d sum) ≡ costing (accepted u) (premium sum (getD rates u 0))
+unfolding quoteTo answerTo
+prepared-premium ps t rates sum v d u p l h k s =
+    ap (priceOf rates sum) (rating-right ps t p v d ∙ rating-class ps v d ∙ class-ancestor ps (small ps t p) (tree ps t p) v d u l)
+    ∙ paid-is rates sum (accepted u) (record { found = refl; listed = h; limit = k }) s

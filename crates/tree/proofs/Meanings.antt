@@ -14,10 +14,15 @@ use Rattle.base.specs.Limits.{topMark}
 use Rattle.tree.specs.Parents.{up, depth}
 use Rattle.tree.specs.Level.{LevelAncestor, levelAncestor}
 use Rattle.tree.specs.Faults.{Tree}
-use Rattle.tree.specs.Questions.{known, classOf, climbOf}
+use Rattle.tree.specs.Questions.{known, classOf, ratingOf, climbOf}
 use Rattle.tree.proofs.Depths.{level-sound, level-complete, level-defined, level-deep}
 use Rattle.tree.proofs.Climbs.{up-from}
 use Rattle.tree.proofs.Intervals.{ancestor-in}
+
+-- the rating lookup is as the level lookup
+pub rating-class : (ps : List ℕ) (v d : ℕ) → ratingOf ps v d ≡ classOf ps v d
+unfolding ratingOf
+rating-class ps v d = refl
 
 -- the three cases of a level lookup
 abbrev Cases : List ℕ → ℕ → ℕ → Type 0
