@@ -2,7 +2,7 @@
  *
  * A list is an array of words, one for each entry: its parent's number, or TANTSHEKO_TOP. Each
  * array has the length that is stated, and arrays that one call takes do not overlap. No other precondition is left to the
- * caller: lists, tables and numbers may hold anything, and bad input gets its numbered refusal. Nothing is allocated, and no function keeps a pointer. */
+ * caller: lists, tables, texts and numbers may hold anything, and bad input gets its numbered refusal. Nothing is allocated, and no function keeps a pointer. */
 #ifndef TANTSHEKO_H
 #define TANTSHEKO_H
 
@@ -30,7 +30,10 @@ enum tantsheko_number {
     TANTSHEKO_BROKEN = 9,      /* the table is not one that the question can be answered from: 0 */
     TANTSHEKO_NOT_ABOVE = 10,  /* u is not strictly above v: u */
     TANTSHEKO_BAD_RATE = 11,   /* the class's rate is over 1,000,000, or past the list's end: 0 */
-    TANTSHEKO_BAD_SUM = 12     /* the sum is outside -2,000,000,000 to 2,000,000,000: 0 */
+    TANTSHEKO_BAD_SUM = 12,    /* the sum is outside -2,000,000,000 to 2,000,000,000: 0 */
+    TANTSHEKO_BAD_LINE = 13,   /* a sheet's line is no band of a class of its level: the first such line, from 1 */
+    TANTSHEKO_GAP = 14,        /* an amount of a class is in no band of the sheet: the class, and the amount beside it */
+    TANTSHEKO_OVERLAP = 15     /* an amount of a class is in more than one band of the sheet: likewise */
 };
 
 /* What preparing answers. */
@@ -53,6 +56,17 @@ typedef struct {
     tantsheko_answer answer;
     int64_t cents;
 } tantsheko_quote;
+
+/* What the check of a sheet answers: 0 and the number of lines, or the refusal and what it names; the amount is 0 but for
+ * 14 and 15. */
+typedef struct {
+    uint32_t number;
+    uint32_t word;
+    uint32_t amount;
+} tantsheko_verdict;
+
+/* The words of a checked sheet. */
+#define TANTSHEKO_SHEET_WORDS 8193
 
 /* W: how many words the table of a list of n entries has. */
 uint64_t tantsheko_table_words(uint32_t n);
@@ -85,6 +99,32 @@ void tantsheko_branch(const uint32_t *table, size_t table_len, uint32_t u, uint3
  * nearest cent, a half going away from zero. Writes every word of the answer, and the cents. */
 void tantsheko_premium(const uint32_t *table, size_t table_len, const uint32_t *rates, size_t rates_len, uint32_t v,
                        uint32_t d, int64_t sum, tantsheko_answer *answer, int64_t *cents);
+
+/* Checks a sheet of rating level d: a text of at most 4,096 lines `class,from,to,rate` in any order, each ended by a line
+ * feed, in digits alone. A line is a class of depth d, a band of amounts, ends included, and its rate per million; each class
+ * of depth d must have every amount from 0 to 2,000,000,000 in one band only. Refuses, in this order: 9, the first bad line,
+ * and the lowest faulty amount of the lowest class at fault, as a gap or an overlap. Lists no cells. */
+void tantsheko_sheet(const uint32_t *table, size_t table_len, const uint8_t *text, size_t text_len, uint32_t d,
+                     tantsheko_verdict *verdict);
+
+/* As tantsheko_sheet. An accepted sheet is written, in a form for many quotations, to TANTSHEKO_SHEET_WORDS words of the
+ * caller's; a refusal leaves them as they were. */
+void tantsheko_checked_sheet(const uint32_t *table, size_t table_len, const uint8_t *text, size_t text_len, uint32_t d,
+                             uint64_t *sheet, tantsheko_verdict *verdict);
+
+/* The premium of a sum insured for entry v at rating level d, by a sheet, with the class and the cells of the rating lookup:
+ * at the rate of the class's band that holds the sum's size. Refuses, in this order: what the rating lookup refuses, what
+ * tantsheko_sheet refuses, 12; and last, on a table that preparing did not write, a class without a band for the sum as 14,
+ * naming the class and the sum's size. Checks the whole sheet each time. Writes every word of the answer, the amount that 14
+ * and 15 name, 0 else, and the cents. */
+void tantsheko_price(const uint32_t *table, size_t table_len, const uint8_t *text, size_t text_len, uint32_t v, uint32_t d,
+                     int64_t sum, tantsheko_answer *answer, uint32_t *amount, int64_t *cents);
+
+/* The same by a checked sheet, at the level it was checked for: finds the band by halving. On a table that the sheet was not
+ * checked for, a class without a band for the sum is 14 likewise. By words that no check wrote the number may be any of 0, 7, 8,
+ * 9, 12 and 14. */
+void tantsheko_quotation(const uint32_t *table, size_t table_len, const uint64_t *sheet, uint32_t v, int64_t sum,
+                     tantsheko_answer *answer, uint32_t *amount, int64_t *cents);
 
 #ifdef __cplusplus
 }

@@ -2,8 +2,10 @@
 pub mod Arms
 pub mod Lists
 pub mod Counts
+pub mod Counting
 pub mod Places
 pub mod Filters
+pub mod Singles
 pub mod Joins
 pub mod Rows
 pub mod Views

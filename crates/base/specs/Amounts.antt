@@ -1,4 +1,4 @@
--- The ranges of rates and sums, and the parts of a cent (2026-01). Assumes nothing.
+-- The ranges of rates and sums, the parts of a cent (2026-01), and the most lines of a sheet (2026-02). Assumes nothing.
 use mathlib.Core.Bool.{Bool}
 use Prim.Native.Nat.{ℕ}
 use lib.Dec.{leb}
@@ -18,3 +18,7 @@ legalSum sum = leb (natAbs sum) mostSum
 -- sum times rate "divided by 10,000" is in cents
 abbrev pub centParts : ℕ
 centParts = 10000
+
+-- a sheet has "up to 4,096 lines"
+abbrev pub mostLines : ℕ
+mostLines = 4096

@@ -59,6 +59,18 @@ badRate = record { number = 11; word = 0 }
 abbrev pub badSum : Outcome
 badSum = record { number = 12; word = 0 }
 
+-- 13 bad line: a sheet's line is not one of its bands; the first such line's number, from 1
+abbrev pub badLine : ℕ → Outcome
+badLine line = record { number = 13; word = line }
+
+-- 14 gap: an amount of a class is in no band of a sheet; the class, and the amount beside it
+abbrev pub gap : ℕ → Outcome
+gap class = record { number = 14; word = class }
+
+-- 15 overlap: an amount of a class is in more than one band of a sheet; the class, and the amount beside it
+abbrev pub overlap : ℕ → Outcome
+overlap class = record { number = 15; word = class }
+
 -- a number and a word are an outcome's
 abbrev pub Says : Outcome → ℕ → ℕ → Type 0
 Says o number word = (number ≡ o .number) × (word ≡ o .word)

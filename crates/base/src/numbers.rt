@@ -24,3 +24,9 @@ pub const NOT_ABOVE: u32 = 10;
 pub const BAD_RATE: u32 = 11;
 
 pub const BAD_SUM: u32 = 12;
+
+pub const BAD_LINE: u32 = 13;
+
+pub const GAP: u32 = 14;
+
+pub const OVERLAP: u32 = 15;

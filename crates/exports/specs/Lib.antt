@@ -1,2 +1,2 @@
--- How preparing's answer stands in words.
+-- How the answers of preparing and of a check stand in words.
 pub mod ReplyWords

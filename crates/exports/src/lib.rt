@@ -1,5 +1,5 @@
-// The C interface: measures, preparing, the five questions and the premium. A slice is a pointer and a length. An answer is written to an array of the caller's:
-// preparing's to two words, a question's to eighteen, with the cents of a premium beside it.
+// The C interface: measures, preparing, the five questions, the premium by a list of rates and by a sheet with bands. A slice is a pointer and a length. An answer is
+// written to an array of the caller's: preparing's to two words, a check's to three, a question's to eighteen, with the money beside it.
 ghost use mathlib.Core.Path.{_≡_};
 ghost use lib.ListN.{length};
 ghost use Rattle.base.specs.Limits.{tableWords, spaceWords};
@@ -7,12 +7,17 @@ ghost use Rattle.table.specs.Preparing.{preparing, tableAfter, spaceAfter};
 ghost use Rattle.answers.specs.Answers.{answerTo, answerWords};
 ghost use Rattle.answers.specs.Steps.{level, climbing, rating, ancestry, branch};
 ghost use Rattle.premiums.specs.Quotes.{quoteTo};
-ghost use Rattle.exports.specs.ReplyWords.{replyWords};
+ghost use Rattle.sheets.specs.Verdicts.{checkTo, bandsOn};
+ghost use Rattle.sheets.specs.Checked.{Checked};
+ghost use Rattle.pricing.specs.Quotes.{priceTo};
+ghost use Rattle.pricing.specs.Promises.{QuotationWords};
+ghost use Rattle.exports.specs.ReplyWords.{replyWords, verdictWords};
 use answers::ANSWER_WORDS;
 use base::Node;
 use base::Sum;
 use base::limits::space_words;
 use base::limits::table_words;
+use sheets::SHEET_WORDS;
 
 // W: the words of a table for n entries.
 #[no_mangle]
@@ -110,4 +115,75 @@ pub extern "C" fn tantsheko_premium(
     let premium = premiums::premium_words(table, rates, Node(v), d, Sum(sum), answer);
     let amount = premium.0;
     *cents = amount;
+}
+
+// The check of a sheet of rating level d.
+#[no_mangle]
+pub extern "C" fn tantsheko_sheet(table: &[u32], text: &[u8], d: u32, verdict: &mut [u32; 3])
+    ensures { λ _. ⌜ now (verdict .exit) ≡ verdictWords (checkTo (now (table .entry)) d (now (text .entry))) ⌝ }
+{
+    let r = sheets::check(table, text, d);
+    *verdict = [r.number, r.word, r.amount];
+}
+
+// As `tantsheko_sheet`; an accepted sheet is written to words of the caller's.
+#[no_mangle]
+pub extern "C" fn tantsheko_checked_sheet(
+    table: &[u32],
+    text: &[u8],
+    d: u32,
+    sheet: &mut [u64; SHEET_WORDS],
+    verdict: &mut [u32; 3],
+)
+    ensures answer { λ _. ⌜ now (verdict .exit) ≡ verdictWords (checkTo (now (table .entry)) d (now (text .entry))) ⌝ }
+    ensures kept { λ _. ⌜ ((checkTo (now (table .entry)) d (now (text .entry)) .number ≡ 0 → ⊥) → now (sheet .exit) ≡ now (sheet .entry)) ⌝ }
+    ensures checked { λ _. ⌜ (checkTo (now (table .entry)) d (now (text .entry)) .number ≡ 0 → Checked (now (sheet .exit)) d (bandsOn (now (table .entry)) d (now (text .entry)))) ⌝ }
+{
+    let r = sheets::check_into(table, text, d, sheet);
+    *verdict = [r.number, r.word, r.amount];
+}
+
+// The premium of a sum insured for v at rating level d, by the text of a sheet.
+#[no_mangle]
+pub extern "C" fn tantsheko_price(
+    table: &[u32],
+    text: &[u8],
+    v: u32,
+    d: u32,
+    sum: i64,
+    answer: &mut [u32; ANSWER_WORDS],
+    amount: &mut u32,
+    cents: &mut i64,
+)
+    ensures answer { λ _. ⌜ now (answer .exit) ≡ answerWords (priceTo (now (table .entry)) (now (text .entry)) v d sum .answer) ⌝ }
+    ensures amount { λ _. ⌜ now (amount .exit) ≡ priceTo (now (table .entry)) (now (text .entry)) v d sum .amount ⌝ }
+    ensures cents { λ _. ⌜ now (cents .exit) ≡ priceTo (now (table .entry)) (now (text .entry)) v d sum .cents .0 ⌝ }
+{
+    let money = pricing::price_words(table, text, Node(v), d, Sum(sum), answer);
+    let named = money.amount;
+    let premium = money.cents;
+    let paid = premium.0;
+    *amount = named;
+    *cents = paid;
+}
+
+// The premium by a checked sheet, at the level that it was checked for.
+#[no_mangle]
+pub extern "C" fn tantsheko_quotation(
+    table: &[u32],
+    sheet: &[u64; SHEET_WORDS],
+    v: u32,
+    sum: i64,
+    answer: &mut [u32; ANSWER_WORDS],
+    amount: &mut u32,
+    cents: &mut i64,
+)
+    ensures { λ _. ⌜ QuotationWords (now (sheet .entry)) v sum (now (table .entry)) (now (answer .exit)) (record { amount = now (amount .exit); cents = record { 0 = now (cents .exit) } }) ⌝ }
+{
+    let money = pricing::quotation_words(table, sheet, Node(v), Sum(sum), answer);
+    let named = money.amount;
+    let premium = money.cents;
+    let paid = premium.0;
+    *amount = named;
+    *cents = paid;
 }

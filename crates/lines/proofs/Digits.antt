@@ -2,13 +2,14 @@
 use mathlib.Core.Path.{_≡_, refl, sym, ap, _∙_}
 use mathlib.Core.List.{List, [], _∷_, _++_}
 use mathlib.Core.Bool.{Bool, true, false, cond, _&&_}
-use mathlib.Core.Option.{none, some}
+use mathlib.Core.Option.{none, some, Option·none-ne-some}
 use Prim.Native.Nat.{ℕ, zero, suc, _+_, _*_, _-_, _≤_, _<_}
 use native.Mathlib.Omega.{arith}
+use native.Mathlib.Decide.{decLt}
 use lib.ListN.{length, getD, take, drop}
-use lib.Seq.{take-suc, take-all, split-at}
-use lib.Dec.{leb, ltb}
-use borrow.Author.Tests.{le-leb, lt-leb, ltb-false}
+use lib.Seq.{length-take-le, take-suc, take-all, take-take, split-at}
+use lib.Dec.{leb}
+use borrow.Author.Tests.{le-leb, lt-leb}
 use Rattle.base.specs.Lists.{every}
 use Rattle.lines.specs.Fields.{isDigit, mostNumber, value, isNumber, number}
 
@@ -84,9 +85,20 @@ module _ (field : List ℕ) where
       }
 
   -- another digit fits 64 bits, where at most ten are read
-  pub valued-fits : (i v : ℕ) → i < length field → ltb 10 (length field) ≡ false → Valued field i v → 10 * v + 9 < 10000000000
+  pub valued-fits : (i v : ℕ) → i < 10 → Valued field i v → 10 * v + 9 < 10000000000
   unfolding tens
-  valued-fits i v h few p = omega (arith, p .small, tens-most i 9 (omega (arith, ltb-false 10 (length field) few)))
+  valued-fits i v few p = omega (arith, p .small, tens-most i 9 (omega arith))
+
+  -- the digits alone
+  pub valued-front : (i v : ℕ) → Valued field i v → Valued (take i field) i v
+  valued-front i v p =
+      let e = take-take i i field (omega arith) in
+      record {
+        within = omega (arith, length-take-le i field (p .within));
+        all = ap (every isDigit) e ∙ p .all;
+        is = p .is ∙ sym (ap (value 0) e);
+        small = p .small;
+      }
 
   unread : isNumber field ≡ false → none ≡ number field
   unfolding number
@@ -128,6 +140,14 @@ module _ (field : List ℕ) where
     read-whole h =
         let e : v ≡ value 0 field = p .is ∙ ap (value 0) whole in
         rw (le-leb 1 (length field) any, le-leb (length field) 10 few, sym (ap (every isDigit) whole) ∙ p .all, le-leb (value 0 field) mostNumber (omega (arith, e))) (ap some e)
+
+-- a number has digits alone
+pub number-digit : (field : List ℕ) (v : ℕ) → some v ≡ number field → (i : ℕ) → i < length field → 48 ≤ getD field i 0
+number-digit field v e i h = go (decLt (getD field i 0) 48)
+  where
+    go : Dec (getD field i 0 < 48) → 48 ≤ getD field i 0
+    go (yes k) = absurd (Option·none-ne-some v (read-other field i h (digit-low _ k) ∙ sym e))
+    go (no k) = omega arith
 
 -- a field with a comma in it is no number
 pub number-comma : (f g : List ℕ) → number (f ++ (44 ∷ g)) ≡ none

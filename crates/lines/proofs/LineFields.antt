@@ -6,21 +6,18 @@ use mathlib.Core.Bool.{Bool, true, false, not, cond}
 use mathlib.Core.Option.{Option, none, some, bind}
 use Prim.Native.Nat.{ℕ, _-_}
 use native.Mathlib.Omega.{arith}
-use lib.ListN.{length, getD, take, drop, length-drop}
+use lib.ListN.{length, getD, drop, length-drop}
 use lib.Seq.{take-all}
 use lib.Dec.{eqb}
 use borrow.Author.Tests.{not-true, not-false}
 use Rattle.base.specs.Limits.{topMark}
 use Rattle.lines.specs.Text.{comma, dash}
 use Rattle.lines.specs.Fields.{isNumber, number, single, countOf, parentField, parentOf}
-use Rattle.lines.specs.Results.{headed}
+use Rattle.lines.specs.Results.{headed, part}
 use Rattle.lines.proofs.Digits.{number-comma}
 use Rattle.lines.proofs.Parts.{single-read, headed-read}
 
--- a line from one place to another, as a part of its bytes
-abbrev pub part : ℕ → ℕ → List ℕ → List ℕ
-part a e line = take (e - a) (drop a line)
-
+-- all that is left of a line
 pub part-rest : (a : ℕ) (line : List ℕ) → part a (length line) line ≡ drop a line
 part-rest a line = take-all (length line - a) (drop a line) (omega (arith, length-drop a line))
 

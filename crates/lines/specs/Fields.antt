@@ -26,6 +26,9 @@ fields line = parted comma line
 abbrev pub isDigit : ℕ → Bool
 isDigit b = leb 48 b && leb b 57
 
+abbrev pub mostDigits : ℕ
+mostDigits = 10
+
 abbrev pub mostNumber : ℕ
 mostNumber = 4294967295
 
@@ -34,7 +37,7 @@ value acc [] = acc
 value acc (b ∷ l) = value (10 * acc + (b - 48)) l
 
 unfoldable pub isNumber : List ℕ → Bool
-isNumber f = leb 1 (length f) && (leb (length f) 10 && (every isDigit f && leb (value 0 f) mostNumber))
+isNumber f = leb 1 (length f) && (leb (length f) mostDigits && (every isDigit f && leb (value 0 f) mostNumber))
 
 unfoldable pub number : List ℕ → Option ℕ
 number f = cond (isNumber f) (some (value 0 f)) none

@@ -1,14 +1,14 @@
 // What a line says.
 ghost use mathlib.Core.Path.{_≡_};
-ghost use Prim.Native.Nat.{_≤_};
-ghost use lib.ListN.{length};
 ghost use Rattle.lines.specs.Fields.{number, countOf, parentOf, questionOf};
-ghost use Rattle.lines.specs.Results.{foundOf, askedOf, headed, NextComma};
+ghost use Rattle.lines.specs.Results.{foundOf, askedOf, headed, NextByte};
 use base::Node;
 use base::limits::TOP_MARK;
 
-// The largest number that a field can state.
-const MOST_NUMBER: u64 = 4294967295;
+// The most digits that a field can have, and the largest number that it can state.
+pub(crate) const MOST_DIGITS: usize = 10;
+
+pub(crate) const MOST_NUMBER: u64 = 4294967295;
 
 // The number that was read, or bytes of another form.
 pub enum Found {
@@ -52,7 +52,7 @@ pub fn read_question(line: &[u8]) -> Asked
     if !has_letter(line, b'Q') {
         return Asked::Other;
     }
-    let c = comma_from(line, 2);
+    let c = next_byte(line, 2, b',');
     if line.len() <= c {
         return Asked::Other;
     }
@@ -78,26 +78,25 @@ fn has_letter(line: &[u8], letter: u8) -> bool
     line[0] == letter && line[1] == b','
 }
 
-// The place of the first comma from a place on, or the length.
-fn comma_from(line: &[u8], from: usize) -> usize
-    requires { ⌜ from ≤ length (now line) ⌝ }
-    ensures { λ r. ⌜ NextComma (now (line .entry)) from r ⌝ }
+// The place of the first such byte from a place on, or the length.
+fn next_byte(bytes: &[u8], from: usize, byte: u8) -> usize
+    ensures { λ r. ⌜ NextByte (now (bytes .entry)) byte from r ⌝ }
 {
     let mut i = from;
-    while i < line.len() {
-        if line[i] == b',' {
+    while i < bytes.len() {
+        if bytes[i] == byte {
             return i;
         }
         i += 1;
     }
-    line.len()
+    i
 }
 
 // A field of one to ten digits, at most 4,294,967,295.
 pub fn read_number(field: &[u8]) -> Found
     ensures { λ r. ⌜ foundOf r ≡ number (now (field .entry)) ⌝ }
 {
-    if field.len() == 0 || 10 < field.len() {
+    if field.len() == 0 || MOST_DIGITS < field.len() {
         return Found::Other;
     }
     let mut value: u64 = 0;

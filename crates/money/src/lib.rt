@@ -2,9 +2,9 @@
 mod rounding;
 mod signs;
 
+pub use signs::size;
 ghost use mathlib.Core.Path.{_≡_};
 ghost use Rattle.money.specs.Prices.{refused, priced};
-use crate::signs::size;
 use base::Cents;
 use base::Sum;
 use base::amounts::MOST_RATE;

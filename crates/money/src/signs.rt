@@ -7,7 +7,7 @@ use base::Cents;
 use base::Sum;
 
 // The size of a sum, also of the least number that there is.
-pub(crate) fn size(sum: Sum) -> u64
+pub fn size(sum: Sum) -> u64
     ensures { λ r. ⌜ r ≡ natAbs (sum .0) ⌝ }
 {
     let x = sum.0;

@@ -1,13 +1,13 @@
 // One premium question to the engine, held to what it is to answer.
-use crate::amounts::MOST_RATE;
-use crate::amounts::MOST_SUM;
-use crate::amounts::cents;
-use crate::amounts::product;
-use crate::amounts::signed;
 use answers::Answer;
 use base::Node;
 use base::Sum;
 use plain_steps::Walk;
+use samples::amounts::MOST_RATE;
+use samples::amounts::MOST_SUM;
+use samples::amounts::cents;
+use samples::amounts::product;
+use samples::amounts::signed;
 use samples::tally::Tally;
 use samples::words::get;
 use samples::words::narrow;

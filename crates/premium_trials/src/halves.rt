@@ -1,7 +1,7 @@
 // Sums about half a cent, and at both ends of sums and rates, in a tree of the top alone.
-use crate::amounts::product;
 use crate::asking::Looked;
 use crate::asking::both;
+use samples::amounts::product;
 use samples::tally::Tally;
 use samples::words::add;
 use samples::words::narrow;

@@ -1,6 +1,5 @@
 // Tries the premium: every small tree with lists of rates and sums of every kind, and every rest about half a cent. Each quote is held to a plain climb of
 // the parent list, to the cells of the printed steps, and to plain arithmetic.
-mod amounts;
 mod asking;
 mod halves;
 mod printed;

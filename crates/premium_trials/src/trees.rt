@@ -1,6 +1,7 @@
 // Every entry of a tree at every level, with sums of every kind.
 use crate::asking::Looked;
 use crate::asking::both;
+use samples::amounts::drawn;
 use samples::climbing::above;
 use samples::climbing::climbs;
 use samples::seeds::next;
@@ -15,12 +16,6 @@ use samples::words::put;
 pub(crate) const LISTS: usize = 5;
 
 const SUMS: usize = 9;
-
-// A size of any number of digits, from two draws.
-fn drawn(seed: usize) -> usize {
-    let millions = pick(seed, 2000);
-    millions * 1000000 + pick(next(seed), 1000000)
-}
 
 // Small sums and those at the limits come first, then sums from a seed; each is asked with both signs.
 fn size_at(i: usize, seed: usize) -> usize {

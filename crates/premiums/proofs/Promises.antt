@@ -5,11 +5,10 @@ use Prim.Native.Nat.{ℕ}
 use lib.IntN.{ℤ}
 use Rattle.base.specs.Lists.{some?}
 use Rattle.tree.specs.Questions.{ratingOf}
-use Rattle.answers.specs.Reading.{Reading}
 use Rattle.answers.specs.Answers.{outcome}
-use Rattle.answers.specs.Promises.{Answers, Gives, Few, Local, Right}
-use Rattle.answers.specs.Steps.{rating}
+use Rattle.answers.specs.Promises.{Gives, Few}
 use Rattle.answers.specs.declared.Answer.{Answer}
+use Rattle.query.proofs.Ratings.{Rated}
 use Rattle.premiums.specs.Quotes.{priceOf, price, quoteOf, quoteTo}
 use Rattle.premiums.specs.Promises.{Local as LocalQuote, Right as RightQuote}
 use Rattle.premiums.specs.declared.Quote.{Quote}
@@ -17,12 +16,6 @@ use Rattle.premiums.proofs.Theorems.{price-numbers}
 
 -- the lookup's answer is a, and the quote r
 module _ (t rates : List ℕ) (v d : ℕ) (sum : ℤ) (a : Answer) (r : Quote) where
-  abbrev program : ℕ → Reading
-  program len = rating len v d
-
-  abbrev pub Looked : Type 0
-  Looked = Answers program t a × (Gives (0 ∷ 7 ∷ 8 ∷ 9 ∷ []) a × (Few 10 a × (Local program t a × Right (λ ps. ratingOf ps v d) t a)))
-
   abbrev pub Promised : Type 0
   Promised =
       (r ≡ quoteTo t rates v d sum)
@@ -31,7 +24,7 @@ module _ (t rates : List ℕ) (v d : ℕ) (sum : ℤ) (a : Answer) (r : Quote) w
       × (LocalQuote (λ u. quoteTo u rates v d sum) t r
       × RightQuote (λ ps. priceOf rates sum (ratingOf ps v d)) t r)))
 
-  pub promised : Looked → r ≡ quoteOf rates sum a → Promised
+  pub promised : Rated t v d a → r ≡ quoteOf rates sum a → Promised
   unfolding quoteTo some?
   promised (answers, (numbers, (few, (local, right)))) q = (
     q ∙ ap (quoteOf rates sum) answers,

@@ -1,2 +1,3 @@
 -- What the parts of a question hand on.
+pub mod StepOne
 pub mod Parts

@@ -1,4 +1,4 @@
-// The five questions, on a lent table of any length and contents. Each gives a result or one of the numbered refusals.
+// The five questions and step 1 by itself, on a lent table of any length and contents. Each gives a result or one of the numbered refusals.
 mod branching;
 mod group;
 mod joining;
@@ -12,13 +12,19 @@ pub use look::look_words;
 ghost use mathlib.Core.Path.{_≡_};
 ghost use mathlib.Core.List.{[], _∷_};
 ghost use lib.ListN.{length};
+ghost use Rattle.base.specs.Limits.{Sized};
+ghost use Rattle.base.specs.Numbers.{Says};
 ghost use Rattle.tree.specs.Questions.{classOf, ratingOf, climbOf, ancestryOf, branchOf};
 ghost use Rattle.answers.specs.Answers.{answerTo, answerWords};
 ghost use Rattle.answers.specs.Promises.{Answers, Gives, Few, Local, Right};
 ghost use Rattle.answers.specs.Steps.{level, climbing, rating, ancestry, branch};
+ghost use Rattle.query.specs.StepOne.{stepOne};
 use answers::ANSWER_WORDS;
 use answers::Answer;
 use base::Node;
+use base::Reply;
+use base::numbers::ACCEPTED;
+use base::numbers::BROKEN;
 
 // The level lookup: the class of v at depth d.
 pub fn level(table: &[u32], v: Node, d: u32) -> Answer
@@ -80,4 +86,23 @@ pub fn branch(table: &[u32], u: Node, v: Node) -> Answer
     ensures right { λ r. ⌜ Right (λ ps. branchOf ps (u .0) (v .0)) (now (table .entry)) r ⌝ }
 {
     branching::child_towards(table, u, v)
+}
+
+// Step 1 alone: the number of entries, or 9 for a broken table.
+pub fn entries(table: &[u32]) -> Reply
+    ensures answer { λ r. ⌜ Says (stepOne (now (table .entry))) (r .number) (r .word) ⌝ }
+    ensures sized { λ r. ⌜ (r .number ≡ 0 → Sized (now (table .entry)) (r .word)) ⌝ }
+{
+    let open = look::opened(table);
+    let n = open.n;
+    if n == 0 {
+        return Reply {
+            number: BROKEN,
+            word: 0,
+        };
+    }
+    Reply {
+        number: ACCEPTED,
+        word: n,
+    }
 }

@@ -3,6 +3,7 @@
 
 mod page;
 mod plot;
+mod sheets;
 mod work;
 
 use reference::trees;

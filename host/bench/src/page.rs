@@ -14,11 +14,13 @@ pub fn line(row: &Row) -> String {
         .map(|(name, t)| format!("{name} {:.0} ({:.2})", t[0], ratio(t)))
         .collect();
     format!(
-        "{:7} {:12} prepare {:5.1} ({:.2})  {}  plain climb {:.0}, lifting {:.0}",
+        "{:7} {:12} prepare {:5.1} ({:.2})  check {:.0} ({:.2})  {}  plain climb {:.0}, lifting {:.0}",
         row.n,
         row.kind,
         row.prepare[0],
         ratio(row.prepare),
+        row.check[0],
+        ratio(row.check),
         q.join("  "),
         row.climb,
         row.lifting
@@ -29,8 +31,9 @@ pub fn line(row: &Row) -> String {
 pub fn summary(rows: &[Row]) -> String {
     let all = |f: &dyn Fn(&Row) -> f64| rows.iter().map(f).collect::<Vec<f64>>();
     let mut text = format!(
-        "Preparing: median ratio {:.2}.",
-        median(all(&|r| ratio(r.prepare)))
+        "Preparing: median ratio {:.2}. Checking a sheet: {:.2}.",
+        median(all(&|r| ratio(r.prepare))),
+        median(all(&|r| ratio(r.check)))
     );
     for (q, name) in QUESTIONS.iter().enumerate() {
         text.push_str(&format!(
@@ -72,16 +75,17 @@ fn machine() -> String {
     format!("{model}, {cores} cores in use, memory {memory}")
 }
 
-fn prepare_table(rows: &[Row]) -> String {
+/// A work of which a tree has one.
+fn work_table(rows: &[Row], times: impl Fn(&Row) -> [f64; 2]) -> String {
     let mut text =
         String::from("| entries | kind | proved | by hand | ratio |\n|---:|---|---:|---:|---:|\n");
     for r in rows {
-        let [a, b] = r.prepare;
+        let [a, b] = times(r);
         text.push_str(&format!(
             "| {} | {} | {a:.1} | {b:.1} | {:.2} |\n",
             r.n,
             r.kind,
-            ratio(r.prepare)
+            a / b
         ));
     }
     text
@@ -119,8 +123,9 @@ pub fn page(rows: &[Row]) -> String {
 Written by the benchmark itself (`host/run bench`). Every figure is a median of runs that take turns in one process:
 the proved code through its C interface, and the same work by hand in Rust (`host/reference`), cell list included. Trees
 have their numbers permuted. Preparing is in nanoseconds an entry, a question in nanoseconds. The premium is asked at the
-levels of the level lookup, with a rate for each entry and sums of both signs. A plain climb and binary lifting answer the
-level lookup only, and list no cells.
+levels of the level lookup, with a rate for each entry and sums of both signs. A sheet with bands has 4,096 lines in any order,
+for a level of at most 512 classes; its check is in microseconds, and a quotation is asked from the checked sheet. A plain climb
+and binary lifting answer the level lookup only, and list no cells.
 
 Machine: {}.
 
@@ -131,13 +136,17 @@ Machine: {}.
 ## Preparing, ns an entry
 
 {}
+## Checking a sheet with bands, microseconds a sheet
+
+{}
 ## Questions, ns: proved / by hand = ratio
 
 {}
 {}",
         machine(),
         summary(rows),
-        prepare_table(rows),
+        work_table(rows, |r| r.prepare),
+        work_table(rows, |r| r.check),
         question_table(rows),
         include_str!("choices.md")
     )

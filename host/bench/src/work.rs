@@ -1,19 +1,30 @@
 //! What is timed: each piece of work by turns in one run, and its median.
 
+use crate::sheets;
 use reference::trees;
 use std::hint::black_box;
 use std::time::Instant;
 use tantsheko::{prepare_into, Table};
 
 /// The questions, as the page names them.
-pub const QUESTIONS: [&str; 6] = ["level", "climb", "rating", "ancestry", "branch", "premium"];
+pub const QUESTIONS: [&str; 7] = [
+    "level",
+    "climb",
+    "rating",
+    "ancestry",
+    "branch",
+    "premium",
+    "quotation",
+];
 
-/// The medians of a tree, in nanoseconds: preparing by entry, a question by question.
+/// The medians of a tree, in nanoseconds: preparing by entry, a question by question; the check of a sheet in microseconds.
 pub struct Row {
     pub n: usize,
     pub kind: &'static str,
     /// Proved, by hand.
     pub prepare: [f64; 2],
+    /// Proved, by hand.
+    pub check: [f64; 2],
     /// Proved, by hand, of each question.
     pub questions: [[f64; 2]; QUESTIONS.len()],
     /// The level lookup by a plain climb, and by binary lifting; neither lists cells.
@@ -27,7 +38,7 @@ pub fn median(mut times: Vec<f64>) -> f64 {
 }
 
 /// Nanoseconds of a piece of work, by so many units of it.
-fn clock<T>(units: usize, work: impl FnOnce() -> T) -> f64 {
+pub fn clock<T>(units: usize, work: impl FnOnce() -> T) -> f64 {
     let start = Instant::now();
     black_box(work());
     start.elapsed().as_nanos() as f64 / units as f64
@@ -49,7 +60,7 @@ fn prepare_times(parents: &[u32]) -> ([f64; 2], Vec<u32>) {
 }
 
 /// Both ways of a piece of work over the same arguments.
-fn times<A: Copy>(asked: &[A], ours: impl Fn(A) -> u32, theirs: impl Fn(A) -> u32) -> [f64; 2] {
+pub fn times<A: Copy>(asked: &[A], ours: impl Fn(A) -> u32, theirs: impl Fn(A) -> u32) -> [f64; 2] {
     let (mut a, mut b) = (Vec::new(), Vec::new());
     for _ in 0..11 {
         a.push(clock(asked.len(), || {
@@ -63,11 +74,11 @@ fn times<A: Copy>(asked: &[A], ours: impl Fn(A) -> u32, theirs: impl Fn(A) -> u3
 }
 
 /// What is looked at of an answer: its number and its last cell.
-fn seen(r: &tantsheko::Answer) -> u32 {
+pub fn seen(r: &tantsheko::Answer) -> u32 {
     r.number() ^ r.places()[r.cells().len() - 1]
 }
 
-fn seen_by_hand(r: &reference::Answer) -> u32 {
+pub fn seen_by_hand(r: &reference::Answer) -> u32 {
     r.number ^ r.cells[r.count as usize - 1]
 }
 
@@ -88,7 +99,7 @@ fn question_times(
 fn premium_times(
     table: &Table,
     asked: &[(u32, u32)],
-    mut below: impl FnMut(usize) -> u32,
+    below: &mut impl FnMut(usize) -> u32,
 ) -> [f64; 2] {
     let words = table.words();
     let rates: Vec<u32> = (0..table.entries()).map(|_| below(1_000_001)).collect();
@@ -157,65 +168,87 @@ fn other_times(parents: &[u32], depth: &[u32], asked: &[(u32, u32)]) -> (f64, f6
     (median(a), median(b))
 }
 
+/// Arguments of the five questions: an entry with a depth up to its own; with its climbs; and with one of its ancestors, as
+/// the upper of two.
+struct Asked {
+    level: Vec<(u32, u32)>,
+    climb: Vec<(u32, u32)>,
+    pairs: Vec<(u32, u32)>,
+}
+
+impl Asked {
+    fn new(table: &Table, depth: &[u32], below: &mut impl FnMut(usize) -> u32) -> Asked {
+        let level: Vec<(u32, u32)> = (0..200_000)
+            .map(|_| {
+                let v = below(depth.len());
+                (v, below(depth[v as usize] as usize + 1))
+            })
+            .collect();
+        let climb = level.iter().map(|&(v, d)| (v, depth[v as usize] - d));
+        let pairs = level
+            .iter()
+            .map(|&(v, d)| (table.level(v, d).result().unwrap_or(v), v));
+        Asked {
+            climb: climb.collect(),
+            pairs: pairs.collect(),
+            level,
+        }
+    }
+
+    /// Both ways of the five questions.
+    fn times(&self, table: &Table) -> [[f64; 2]; 5] {
+        let words = table.words();
+        [
+            question_times(
+                &self.level,
+                |v, d| table.level(v, d),
+                |v, d| reference::level(words, v, d),
+            ),
+            question_times(
+                &self.climb,
+                |v, k| table.climb(v, k),
+                |v, k| reference::climb(words, v, k),
+            ),
+            question_times(
+                &self.level,
+                |v, d| table.rating(v, d),
+                |v, d| reference::rating(words, v, d),
+            ),
+            question_times(
+                &self.pairs,
+                |u, v| table.ancestry(u, v),
+                |u, v| reference::ancestry(words, u, v),
+            ),
+            question_times(
+                &self.pairs,
+                |u, v| table.branch(u, v),
+                |u, v| reference::branch(words, u, v),
+            ),
+        ]
+    }
+}
+
 /// Times a tree of a kind, with its numbers permuted.
 pub fn time(n: usize, kind: usize, name: &'static str) -> Row {
     let parents = trees::make(kind, n, &mut (7 + n as u64), true);
     let (prepare, words) = prepare_times(&parents);
     let table = Table::from_words(words);
-    let words = table.words();
-    let depth = &words[4..4 + n];
+    let depth = &table.words()[4..4 + n];
     let mut seed = 99;
     let mut below = |k: usize| trees::below(&mut seed, k);
-    // An entry with a depth up to its own; with its climbs; and with one of its ancestors, as the upper of two.
-    let level: Vec<(u32, u32)> = (0..200_000)
-        .map(|_| {
-            let v = below(n);
-            (v, below(depth[v as usize] as usize + 1))
-        })
-        .collect();
-    let pairs: Vec<(u32, u32)> = level
-        .iter()
-        .map(|&(v, d)| (table.level(v, d).result().unwrap_or(v), v))
-        .collect();
-    let climb: Vec<(u32, u32)> = level
-        .iter()
-        .map(|&(v, d)| (v, depth[v as usize] - d))
-        .collect();
-    let questions = [
-        question_times(
-            &level,
-            |v, d| table.level(v, d),
-            |v, d| reference::level(words, v, d),
-        ),
-        question_times(
-            &climb,
-            |v, k| table.climb(v, k),
-            |v, k| reference::climb(words, v, k),
-        ),
-        question_times(
-            &level,
-            |v, d| table.rating(v, d),
-            |v, d| reference::rating(words, v, d),
-        ),
-        question_times(
-            &pairs,
-            |u, v| table.ancestry(u, v),
-            |u, v| reference::ancestry(words, u, v),
-        ),
-        question_times(
-            &pairs,
-            |u, v| table.branch(u, v),
-            |u, v| reference::branch(words, u, v),
-        ),
-        premium_times(&table, &level, &mut below),
-    ];
-    let (climb, lifting) = other_times(&parents, depth, &level);
+    let asked = Asked::new(&table, depth, &mut below);
+    let [level, climb, rating, ancestry, branch] = asked.times(&table);
+    let premium = premium_times(&table, &asked.level, &mut below);
+    let sheet = sheets::Work::new(&table, depth, &mut below);
+    let quotation = sheet.quote_times(depth, &mut below);
+    let (plain, lifting) = other_times(&parents, depth, &asked.level);
     Row {
         n,
         kind: name,
         prepare,
-        questions,
-        climb,
+        check: sheet.check_times(),
+        questions: [level, climb, rating, ancestry, branch, premium, quotation],
+        climb: plain,
         lifting,
     }
 }

@@ -1,15 +1,19 @@
 //! The class tree and its prepared table, written by hand in Rust from the paper. It shares nothing with the proved
 //! code, so that the two can be compared, word for word and in time.
 
+mod counting;
 mod premium;
 mod prepare;
 mod questions;
 mod shapes;
+mod sheets;
 pub mod trees;
 
+pub use counting::counted;
 pub use premium::{premium, Quote};
 pub use prepare::{prepare, space_words, table_words};
 pub use questions::{ancestry, branch, climb, level, rating, Answer};
+pub use sheets::{price, sheet, Fault, Sheet};
 
 /// The word of a top entry in a parent list, and of a group whose root is the top.
 pub const TOP: u32 = u32::MAX;

@@ -49,7 +49,7 @@ impl<'a> Reader<'a> {
     }
 
     /// Step 1.
-    fn open(&mut self) -> Result<Sections, Refusal> {
+    pub(crate) fn open(&mut self) -> Result<Sections, Refusal> {
         if self.table.len() < 4 {
             return Err(BROKEN);
         }

@@ -1,5 +1,6 @@
 //! The proved functions as the static library has them: a slice is a pointer and a length.
 
+use crate::sheet::Verdict;
 use crate::table::Answer;
 
 extern "C" {
@@ -28,6 +29,45 @@ extern "C" {
         d: u32,
         sum: i64,
         answer: *mut Answer,
+        cents: *mut i64,
+    );
+    pub fn tantsheko_sheet(
+        table: *const u32,
+        table_len: usize,
+        text: *const u8,
+        text_len: usize,
+        d: u32,
+        verdict: *mut Verdict,
+    );
+    pub fn tantsheko_checked_sheet(
+        table: *const u32,
+        table_len: usize,
+        text: *const u8,
+        text_len: usize,
+        d: u32,
+        sheet: *mut u64,
+        verdict: *mut Verdict,
+    );
+    pub fn tantsheko_price(
+        table: *const u32,
+        table_len: usize,
+        text: *const u8,
+        text_len: usize,
+        v: u32,
+        d: u32,
+        sum: i64,
+        answer: *mut Answer,
+        amount: *mut u32,
+        cents: *mut i64,
+    );
+    pub fn tantsheko_quotation(
+        table: *const u32,
+        table_len: usize,
+        sheet: *const u64,
+        v: u32,
+        sum: i64,
+        answer: *mut Answer,
+        amount: *mut u32,
         cents: *mut i64,
     );
 }

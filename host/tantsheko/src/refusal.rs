@@ -30,12 +30,19 @@ pub enum Refusal {
     BadRate,
     /// 12: the sum insured is outside -2,000,000,000 to 2,000,000,000.
     BadSum,
+    /// 13: a line of the sheet is no band of a class of its level; the first such line, from 1.
+    BadLine(u32),
+    /// 14: an amount of a class is in no band of the sheet; the lowest such class, and its lowest amount.
+    Gap { class: u32, amount: u32 },
+    /// 15: an amount of a class is in more than one band of the sheet; likewise.
+    Overlap { class: u32, amount: u32 },
 }
 
 impl Refusal {
-    /// The refusal of a number and what it names; none for 0. A number that the paper does not have is `Broken`: the
-    /// proved code gives none.
-    pub(crate) fn of(number: u32, word: u32) -> Option<Refusal> {
+    /// The refusal of a number and what it names, with the amount of 14 and 15; none for 0. A number that the paper does
+    /// not have is `Broken`: the proved code gives none.
+    pub(crate) fn of(number: u32, word: u32, amount: u32) -> Option<Refusal> {
+        let class = word;
         match number {
             0 => None,
             1 => Some(Refusal::Count),
@@ -49,6 +56,9 @@ impl Refusal {
             10 => Some(Refusal::NotAbove(word)),
             11 => Some(Refusal::BadRate),
             12 => Some(Refusal::BadSum),
+            13 => Some(Refusal::BadLine(word)),
+            14 => Some(Refusal::Gap { class, amount }),
+            15 => Some(Refusal::Overlap { class, amount }),
             _ => Some(Refusal::Broken),
         }
     }
@@ -68,6 +78,9 @@ impl Refusal {
             Refusal::NotAbove(_) => 10,
             Refusal::BadRate => 11,
             Refusal::BadSum => 12,
+            Refusal::BadLine(_) => 13,
+            Refusal::Gap { .. } => 14,
+            Refusal::Overlap { .. } => 15,
         }
     }
 
@@ -86,6 +99,9 @@ impl Refusal {
             Refusal::NotAbove(_) => "not above",
             Refusal::BadRate => "bad rate",
             Refusal::BadSum => "bad sum",
+            Refusal::BadLine(_) => "bad line",
+            Refusal::Gap { .. } => "gap",
+            Refusal::Overlap { .. } => "overlap",
         }
     }
 
@@ -97,13 +113,23 @@ impl Refusal {
             | Refusal::Loop(x)
             | Refusal::Unknown(x)
             | Refusal::TooDeep(x)
-            | Refusal::NotAbove(x) => x,
+            | Refusal::NotAbove(x)
+            | Refusal::BadLine(x) => x,
+            Refusal::Gap { class, .. } | Refusal::Overlap { class, .. } => class,
             Refusal::Count
             | Refusal::ShortTable
             | Refusal::ShortSpace
             | Refusal::Broken
             | Refusal::BadRate
             | Refusal::BadSum => 0,
+        }
+    }
+
+    /// The amount that it names beside a class; 0 where it names none.
+    pub fn amount(self) -> u32 {
+        match self {
+            Refusal::Gap { amount, .. } | Refusal::Overlap { amount, .. } => amount,
+            _ => 0,
         }
     }
 }
@@ -126,6 +152,16 @@ impl fmt::Display for Refusal {
                 "the class has no rate from 0 to {MOST_RATE} in the list of rates"
             ),
             Refusal::BadSum => write!(f, "a sum insured is from -{MOST_SUM} to {MOST_SUM}"),
+            Refusal::BadLine(line) => write!(f, "line {line} is not a band of the sheet's level"),
+            Refusal::Gap { class, amount } => {
+                write!(f, "no line holds amount {amount} of class {class}")
+            }
+            Refusal::Overlap { class, amount } => {
+                write!(
+                    f,
+                    "more than one line holds amount {amount} of class {class}"
+                )
+            }
         }
     }
 }

@@ -33,10 +33,16 @@ pub struct Answer {
 }
 
 impl Answer {
-    /// The result, or why there is none.
+    /// The result, or why there is none. A refusal that names an amount too is whole in its quote alone.
     #[inline]
     pub fn result(&self) -> Result<u32, Refusal> {
-        match Refusal::of(self.number, self.word) {
+        self.result_with(0)
+    }
+
+    /// The result, or why there is none, with the amount that the refusal may name.
+    #[inline]
+    pub(crate) fn result_with(&self, amount: u32) -> Result<u32, Refusal> {
+        match Refusal::of(self.number, self.word, amount) {
             None => Ok(self.word),
             Some(refusal) => Err(refusal),
         }
@@ -162,7 +168,7 @@ pub fn prepare_into(parents: &[u32], table: &mut [u32], space: &mut [u32]) -> Re
             reply.as_mut_ptr(),
         );
     }
-    match Refusal::of(reply[0], reply[1]) {
+    match Refusal::of(reply[0], reply[1], 0) {
         None => Ok(reply[1]),
         Some(refusal) => Err(refusal),
     }

@@ -273,6 +273,9 @@ fn help_for_each_command() {
         "pricelist",
         "premium",
         "premiums",
+        "sheet",
+        "quote",
+        "quotes",
         "check",
     ] {
         assert!(all.contains(&format!("\n  {command} ")), "{command}");

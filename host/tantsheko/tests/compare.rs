@@ -1,10 +1,10 @@
 //! The proved library beside the same work by hand: every word and every answer, on every list that is tried.
 
-use reference::trees::{below, make as tree, next};
-use reference::Answer;
-use tantsheko::{prepare_into, Refusal, Table};
+mod beside;
 
-const TOP: u32 = u32::MAX;
+use beside::{same_answer as same, same_quote, TOP};
+use reference::trees::{below, make as tree, next};
+use tantsheko::{prepare_into, Refusal, Table};
 
 /// The number and the word of preparing's answer.
 fn reply(r: Result<u32, Refusal>) -> (u32, u32) {
@@ -37,16 +37,6 @@ fn whole(parents: &[u32]) -> Option<Vec<u32>> {
     )
 }
 
-fn same(ours: tantsheko::Answer, theirs: Answer) {
-    let (number, word) = match ours.result() {
-        Ok(word) => (0, word),
-        Err(refusal) => (refusal.number(), refusal.names()),
-    };
-    assert_eq!((number, word), (theirs.number, theirs.word));
-    assert_eq!(ours.cells().len() as u32, theirs.count);
-    assert_eq!(ours.places(), &theirs.cells);
-}
-
 /// All five questions with two arguments.
 fn same_answers(table: &Table, a: u32, b: u32) {
     let words = table.words();
@@ -59,10 +49,8 @@ fn same_answers(table: &Table, a: u32, b: u32) {
 
 /// The premium question, with a list of rates.
 fn same_premium(table: &Table, rates: &[u32], v: u32, d: u32, sum: i64) {
-    let ours = table.premium(rates, v, d, sum);
     let theirs = reference::premium(table.words(), rates, v, d, sum);
-    same(*ours.answer(), theirs.answer);
-    assert_eq!(ours.cents(), theirs.cents, "{v} {d} {sum}");
+    same_quote(table.premium(rates, v, d, sum), theirs);
 }
 
 /// Rates of n entries: most of them legal, the limits among them, and a list that may end early.

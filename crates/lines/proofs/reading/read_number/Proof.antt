@@ -29,7 +29,7 @@ returns-2 c =
 mul-value : tie.Need-mul-value Inv-loop μ-loop
 mul-value c =
     let l = c .before .before .before .before in
-    omega (arith, valued-fits _ (l .loop .i) (l .loop .value) (omega arith) (l .before .if2 .left) (l .loop .inv))
+    omega (arith, valued-fits _ (l .loop .i) (l .loop .value) (omega (arith, ltb-false)) (l .loop .inv))
 
 cast-value : tie.Need-cast-value Inv-loop μ-loop
 cast-value c =
@@ -41,7 +41,7 @@ add-value : tie.Need-add-value Inv-loop μ-loop
 add-value c =
     let l = c .before .before .before .before in
     let b = getD (l .before .before .before .args .field .now) (l .loop .i) 0 in
-    omega (arith, valued-fits _ (l .loop .i) (l .loop .value) (omega arith) (l .before .if2 .left) (l .loop .inv), ltb-false 57 b (c .if4 .left))
+    omega (arith, valued-fits _ (l .loop .i) (l .loop .value) (omega (arith, ltb-false)) (l .loop .inv), ltb-false 57 b (c .if4 .left))
 
 loop-again : tie.Need-loop-again Inv-loop μ-loop
 loop-again c =

@@ -1,7 +1,7 @@
 //! What each command does.
 
 /// Name, arguments, one line, and more.
-pub const COMMANDS: [(&str, &str, &str, &str); 10] = [
+pub const COMMANDS: [(&str, &str, &str, &str); 13] = [
     (
         "prepare",
         "LIST TABLE",
@@ -72,6 +72,35 @@ With --cells a second line lists the cells of the table that were read.",
 `entry,sum,refusal,class,cents,cells`: refusal is 0 if there is a premium, else class
 and cents are -; cells is how many cells were read.
 A line of another form ends the stream, after the answers to the lines before it.",
+    ),
+    (
+        "sheet",
+        "TABLE SHEET LEVEL",
+        "check a sheet of bands for a rating level",
+        "SHEET is a text of up to 4096 lines `class,from,to,rate` in any order, each ended by a
+line feed, in digits alone: a class of depth LEVEL, a band of amounts from 0 to
+2000000000, ends included, and its rate from 0 to 1000000 per million. Each class of
+that depth must have every amount in one band only.
+Prints `0,lines` for a good sheet, else the first fault, and says on standard error
+how to mend it: `13,line` for the first bad line; `14,class,amount` for the lowest
+class at fault and its lowest faulty amount where no band holds it, and
+`15,class,amount` where more than one does.",
+    ),
+    (
+        "quote",
+        "TABLE SHEET LEVEL ENTRY SUM [--cells]",
+        "the premium of a sum insured by a sheet, in cents",
+        "SHEET is as for `sheet`, and SUM as for `premium`; the band is that of the size of SUM
+without its sign. Prints `class,cents`. Refused are, in this order: what `class`
+refuses, what `sheet` refuses, a sum outside its range (number 12).
+With --cells a second line lists the cells of the table that were read.",
+    ),
+    (
+        "quotes",
+        "TABLE SHEET LEVEL < SUMS > PREMIUMS",
+        "the premiums of a stream of sums by a sheet",
+        "SHEET is as for `sheet`: it is checked once, and a refused sheet answers no line.
+Lines and answers are those of `premiums`.",
     ),
     (
         "check",

@@ -6,6 +6,8 @@ mod one;
 mod premiums;
 mod prepare;
 mod prices;
+mod quotes;
+mod sheets;
 mod stream;
 
 use std::io::Write;
@@ -48,10 +50,19 @@ pub fn open(path: &str) -> Result<Table, Stop> {
     file::read(Path::new(path)).map_err(|e| Stop::Fault(format!("{path} {e}")))
 }
 
+/// Why there is nothing from a file.
+fn unread(path: &str, e: std::io::Error) -> Stop {
+    Stop::Fault(format!("{path} cannot be read: {}", file::reason(&e)))
+}
+
+/// The bytes of a file.
+pub fn bytes_of(path: &str) -> Result<Vec<u8>, Stop> {
+    std::fs::read(path).map_err(|e| unread(path, e))
+}
+
 /// A text from its file, without the mark that some editors put first.
 pub fn text_of(path: &str) -> Result<String, Stop> {
-    let text = std::fs::read_to_string(path)
-        .map_err(|e| Stop::Fault(format!("{path} cannot be read: {}", file::reason(&e))))?;
+    let text = std::fs::read_to_string(path).map_err(|e| unread(path, e))?;
     match text.strip_prefix('\u{feff}') {
         Some(rest) => Ok(rest.to_string()),
         None => Ok(text),
@@ -94,6 +105,9 @@ fn run(args: &[String]) -> Done {
         "pricelist" => prices::pricelist(rest),
         "premium" => premiums::premium(rest),
         "premiums" => premiums::premiums(rest),
+        "sheet" => sheets::sheet(rest),
+        "quote" => sheets::quote(rest),
+        "quotes" => sheets::quotes(rest),
         question => one::one(question, rest),
     }
 }

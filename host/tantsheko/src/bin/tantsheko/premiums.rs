@@ -1,9 +1,9 @@
-//! Premiums: one, and a stream of them.
+//! Premiums by a list of rates.
 
-use crate::one::{cells_line, refused, without_cells};
-use crate::stream::{number as field, put, stream};
-use crate::{number, open, say, text_of, Done, Stop};
-use tantsheko::{rates, sums, Quote, Refusal, MOST_RATE};
+use crate::one::without_cells;
+use crate::quotes::{quote_lines, sum_of, tell, unquoted};
+use crate::{number, open, text_of, Done, Stop};
+use tantsheko::{rates, Refusal, MOST_RATE};
 
 /// A list of rates from its file.
 fn rates_of(path: &str) -> Result<Vec<u32>, Stop> {
@@ -32,53 +32,16 @@ pub fn premium(args: &[String]) -> Done {
         ));
     };
     let (entry, level) = (number(entry, "ENTRY")?, number(level, "LEVEL")?);
-    let asked = sums::read(sum.as_bytes()).ok_or_else(|| {
-        Stop::Usage(format!(
-            "SUM is a whole number, as 25 or -25, and not `{sum}`"
-        ))
-    })?;
+    let asked = sum_of(sum)?;
     let table = open(path)?;
     let rates = rates_of(list)?;
     let quote = table.premium(&rates, entry, level, asked);
-    let read = cells_line(quote.answer(), cells);
-    let refusal = match quote.result() {
-        Ok((class, cents)) => return say(&format!("{class},{cents}\n{read}")),
-        Err(refusal) => refusal,
-    };
-    say(&read)?;
-    Err(Stop::Fault(
+    tell(&quote, cells, |refusal| {
         match (refusal, table.rating(entry, level).result()) {
             (Refusal::BadRate, Ok(class)) => unrated(list, &rates, class),
-            (Refusal::BadSum, _) => format!("{sum} is out of range: {refusal}"),
-            _ => refused(&table, "premium", entry, level, refusal),
-        },
-    ))
-}
-
-/// The entry and the sum of a line.
-fn question(line: &[u8]) -> Option<(u32, i64)> {
-    let comma = line.iter().position(|&b| b == b',')?;
-    Some((field(&line[..comma])?, sums::read(&line[comma + 1..])?))
-}
-
-/// What stands behind a question's line.
-fn row(out: &mut Vec<u8>, quote: &Quote) {
-    out.push(b',');
-    put(out, quote.answer().number().into());
-    match quote.result() {
-        Ok((class, cents)) => {
-            out.push(b',');
-            put(out, class.into());
-            out.push(b',');
-            if cents < 0 {
-                out.push(b'-');
-            }
-            put(out, cents.unsigned_abs());
+            _ => unquoted(&table, entry, level, sum, refusal),
         }
-        Err(_) => out.extend_from_slice(b",-,-"),
-    }
-    out.push(b',');
-    put(out, quote.answer().cells().len() as u64);
+    })
 }
 
 pub fn premiums(args: &[String]) -> Done {
@@ -91,12 +54,5 @@ pub fn premiums(args: &[String]) -> Done {
     let level = number(level, "LEVEL")?;
     let table = open(path)?;
     let rates = rates_of(list)?;
-    stream(
-        "`entry,sum`: give an entry's number and a whole number, as 7,25 or 7,-25",
-        |line, out| {
-            let (entry, sum) = question(line)?;
-            row(out, &table.premium(&rates, entry, level, sum));
-            Some(())
-        },
-    )
+    quote_lines(|entry, sum| table.premium(&rates, entry, level, sum))
 }

@@ -1,0 +1,1 @@
+// The bands of a sheet: definitions and theorems, no functions.

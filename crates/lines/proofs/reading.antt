@@ -1,2 +1,0 @@
--- Laws of the module `reading`.
-pub mod Commas

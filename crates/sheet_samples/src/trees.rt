@@ -1,0 +1,96 @@
+// The tree, its table and the level that a sheet is tried with, from a seed.
+ghost use mathlib.Core.Path.{_≡_};
+ghost use Prim.Native.Nat.{_≤_};
+use crate::kinds::BROKEN;
+use crate::kinds::FULL;
+use crate::kinds::LINES_FOR_NONE;
+use crate::kinds::NO_CLASSES;
+use samples::cases::Case;
+use samples::cases::GROWN;
+use samples::cases::KINDS;
+use samples::cases::case_at;
+use samples::climbing::climbs;
+use samples::seeds::next;
+use samples::seeds::pick;
+use samples::words::TOP;
+use samples::words::add;
+use samples::words::less;
+use samples::words::put;
+
+// Which of the lists: of any kind with up to 40 entries, or for the longest sheets with up to 512; or a small tree.
+fn list_of(kind: usize, line: usize, seed: usize) -> usize {
+    if line == GROWN {
+        return pick(seed, 1748);
+    }
+    if kind < FULL {
+        return pick(seed, 160);
+    }
+    pick(seed, 212)
+}
+
+// The line of the lists that it is on: a kind of trees, or the small ones every other time.
+fn line_of(kind: usize, seed: usize) -> usize {
+    if kind < FULL {
+        if pick(seed, 2) == 0 {
+            return GROWN;
+        }
+    }
+    pick(next(seed), KINDS)
+}
+
+// A tree, whose list is left in `parents`.
+pub fn tree(kind: usize, seed: usize, parents: &mut [u32]) -> Case
+    ensures { λ r. ⌜ r .n ≤ 512 ⌝ }
+{
+    let line = line_of(kind, seed);
+    case_at(line, list_of(kind, line, next(next(seed))), parents)
+}
+
+// The level that the lines are for: that of an entry.
+pub fn level(parents: &[u32], n: usize, seed: usize) -> usize
+    ensures { λ r. ⌜ r ≤ n ⌝ }
+{
+    climbs(parents, n, pick(next(add(seed, 1)), n))
+}
+
+// The level that is asked for: for some kinds one without entries.
+pub fn asked_level(kind: usize, n: usize, d: usize, seed: usize) -> usize
+    ensures { λ r. ⌜ ((kind ≡ 26 → ⊥) → (kind ≡ 27 → ⊥) → r ≡ d) ⌝ }
+{
+    match kind {
+        NO_CLASSES | LINES_FOR_NONE => {
+            if pick(seed, 4) == 0 {
+                return TOP;
+            }
+            add(n, pick(next(seed), 2))
+        }
+        _ => d,
+    }
+}
+
+// A cell 0 that step 1 calls broken in a table of n entries.
+fn broken_count(n: usize, seed: usize) -> usize {
+    match pick(seed, 4) {
+        0 => 0,
+        1 => 1048577,
+        2 => TOP,
+        _ => add(n, 1),
+    }
+}
+
+// Breaks the table for the kind of broken ones: cell 0, or its length. Answers the length.
+pub fn break_table(kind: usize, n: usize, t: usize, seed: usize, table: &mut [u32]) -> usize
+    ensures { λ r. ⌜ ((kind ≡ 28 → ⊥) → r ≡ t) ⌝ }
+{
+    if kind != BROKEN {
+        return t;
+    }
+    match pick(seed, 4) {
+        0 => pick(next(seed), 4),
+        1 => less(t, add(4, pick(next(seed), 5))),
+        _ => {
+            put(table, 0, broken_count(n, next(seed)));
+            t
+        }
+    }
+}

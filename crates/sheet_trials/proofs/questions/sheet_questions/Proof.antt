@@ -1,0 +1,28 @@
+-- `questions::sheet_questions` is safe and ends. Assumes nothing.
+use Prim.Native.Nat.{_-_}
+use native.Mathlib.Omega.{arith}
+use Rattle.sheet_trials.proofs.questions.sheet_questions.Statement.{statement}
+use Rattle.sheet_trials.proofs.questions.sheet_questions.Tie as tie
+
+abbrev Inv-loop : tie.InvT-loop
+Inv-loop table sheet lines parents n d checked seed tally₀ s₀ i₀ tally s i = Unit {0}
+
+abbrev μ-loop : tie.MeasureT-loop
+μ-loop table sheet lines parents n d checked seed tally₀ s₀ i₀ tally s i = 40 - i
+
+pub sheet-questions-spec : {M : Type 1} → statement M
+sheet-questions-spec =
+    tie.close
+    (tie.spec
+    Inv-loop
+    μ-loop
+    (λ c κs. tt)
+    (λ c. tt)
+    (λ c. tt)
+    (λ c κs. tt)
+    (λ c κs. tt)
+    (λ c κs. tt)
+    (λ c. omega arith)
+    (λ c. omega arith)
+    (λ c. tt)
+    (λ c. tt))

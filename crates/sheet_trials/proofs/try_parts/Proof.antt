@@ -1,0 +1,16 @@
+-- `try_parts` is safe. Assumes nothing.
+use native.Mathlib.Omega.{arith}
+use lib.ListN.{length-take}
+use Rattle.sheet_trials.proofs.try_parts.Statement.{statement}
+use Rattle.sheet_trials.proofs.try_parts.Tie as tie
+
+pub try-parts-spec : {M : Type 1} → statement M
+try-parts-spec =
+    tie.close
+    (tie.spec
+    (λ c. simp length-take (omega arith))
+    (λ c. simp length-take (omega arith))
+    (λ c κs. tt)
+    (λ c. tt)
+    (λ c κs. tt)
+    (λ c. tt))

@@ -1,0 +1,2 @@
+-- Laws of the module `keys`.
+pub mod Storing

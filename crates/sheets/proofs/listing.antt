@@ -1,0 +1,4 @@
+-- Laws of the module `listing`.
+pub mod Tests
+pub mod Turns
+pub mod Sound

@@ -1,0 +1,4 @@
+-- Laws of the module `sweeping`.
+pub mod Fills
+pub mod Classes
+pub mod Searches
