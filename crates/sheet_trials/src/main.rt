@@ -12,8 +12,7 @@ use crate::kinds::ANY;
 use crate::kinds::count_of;
 use crate::kinds::number_of;
 use crate::printed::say;
-use crate::questions::sheet_questions;
-use crate::questions::text_questions;
+use crate::questions::questions_with;
 use plain_sheets::judging;
 use plain_sheets::judging::Due;
 use plain_sheets::judging::verdict;
@@ -78,13 +77,8 @@ fn try_text(
     let want = wanted(kind, text, &mut lines, parents, n, d);
     let first = check(table, text, narrow(d), want);
     let second = check_into(table, text, narrow(d), want, WORD, &mut sheet);
-    let third = text_questions(table, text, &lines, parents, n, d, want, seed);
-    let fourth = sheet_questions(table, &sheet, &lines, parents, n, d, want, next(seed));
-    expected(kind, want)
-        .plus(first)
-        .plus(second)
-        .plus(third)
-        .plus(fourth)
+    let asked = questions_with(table, text, &sheet, &lines, parents, n, d, want, seed);
+    expected(kind, want).plus(first).plus(second).plus(asked)
 }
 
 // The same with a table of t words and a text of so many bytes.

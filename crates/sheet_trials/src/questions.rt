@@ -83,10 +83,11 @@ fn both_quotations(
     added.plus(taken)
 }
 
-// One question with a text.
-fn text_question(
+// One question: with the text, and with the checked sheet where it is accepted.
+fn question(
     table: &[u32],
     text: &[u8],
+    sheet: &[u64; SHEET_WORDS],
     lines: &[u32],
     parents: &[u32],
     n: usize,
@@ -98,52 +99,22 @@ fn text_question(
     let size = size_at(lines, checked.word, next(next(seed)));
     let looked = judging::look(checked.number != 9, parents, n, d, v);
     let want = judging::price(looked, checked, lines, size);
-    both_prices(table, text, narrow(v), narrow(d), size, looked, want)
+    let priced = both_prices(table, text, narrow(v), narrow(d), size, looked, want);
+    if checked.number != 0 {
+        return priced;
+    }
+    priced.plus(both_quotations(table, sheet, narrow(v), narrow(d), size, looked, want))
 }
 
-// One question with a checked sheet.
-fn sheet_question(
-    table: &[u32],
-    sheet: &[u64; SHEET_WORDS],
-    lines: &[u32],
-    parents: &[u32],
-    n: usize,
-    d: usize,
-    checked: Due,
-    seed: usize,
-) -> Tally {
-    let v = entry_at(n, seed);
-    let size = size_at(lines, checked.word, next(next(seed)));
-    let looked = judging::look(true, parents, n, d, v);
-    let want = judging::price(looked, checked, lines, size);
-    both_quotations(table, sheet, narrow(v), narrow(d), size, looked, want)
+// How many questions are asked: more of an accepted sheet.
+fn count(checked: Due) -> usize {
+    if checked.number == 0 { MANY } else { FEW }
 }
 
-// A few questions with a text.
-pub(crate) fn text_questions(
+// Questions with a sheet.
+pub(crate) fn questions_with(
     table: &[u32],
     text: &[u8],
-    lines: &[u32],
-    parents: &[u32],
-    n: usize,
-    d: usize,
-    checked: Due,
-    seed: usize,
-) -> Tally {
-    let mut tally = Tally::new();
-    let mut s = seed;
-    let mut i = 0;
-    while i < FEW {
-        s = next(s);
-        tally = tally.plus(text_question(table, text, lines, parents, n, d, checked, s));
-        i += 1;
-    }
-    tally
-}
-
-// Many questions with a checked sheet, where it is accepted.
-pub(crate) fn sheet_questions(
-    table: &[u32],
     sheet: &[u64; SHEET_WORDS],
     lines: &[u32],
     parents: &[u32],
@@ -152,15 +123,13 @@ pub(crate) fn sheet_questions(
     checked: Due,
     seed: usize,
 ) -> Tally {
+    let most = count(checked);
     let mut tally = Tally::new();
-    if checked.number != 0 {
-        return tally;
-    }
     let mut s = seed;
     let mut i = 0;
-    while i < MANY {
+    while i < most {
         s = next(s);
-        tally = tally.plus(sheet_question(table, sheet, lines, parents, n, d, checked, s));
+        tally = tally.plus(question(table, text, sheet, lines, parents, n, d, checked, s));
         i += 1;
     }
     tally
