@@ -12,7 +12,7 @@ use lib.Seq.{take-at, getD-at, ext-getD}
 use Rattle.base.specs.Lists.{keep, padded}
 use Rattle.base.proofs.Counts.{times}
 use Rattle.base.proofs.Places.{stands, place-is}
-use Rattle.base.proofs.Joins.{join-find, padded-length, padded-in, padded-past}
+use Rattle.base.proofs.Joins.{join-find, padded-in, padded-past}
 use Rattle.base.specs.Limits.{topMark}
 use Rattle.tree.specs.Parents.{up}
 use Rattle.tree.specs.Forest.{height, order, position, pathTop, pathFrom}
@@ -23,7 +23,7 @@ use Rattle.table.specs.Ladders.{ladder, pathTops, ladders, ladPos}
 use Rattle.climbs.proofs.Paths.{path-in}
 use Rattle.climbs.proofs.OwnPaths.{OnPath, topsWithin, on-path, tops-once, tops-in, tops-split}
 use Rattle.climbs.proofs.Ladders.{rise, rungsWithin, ladder-length, ladpos-on, ladpos-top, lemma-5, ladder-own}
-use Rattle.climbs.proofs.Room.{ladders-fit}
+use Rattle.climbs.proofs.SectionLengths.{ladder-cells-length}
 use Rattle.climbs.proofs.PathTops.{rungs-grow, ladder-end}
 
 -- word j of LADDERS stands 1 or more before a path top's own word, in that top's ladder
@@ -111,7 +111,7 @@ module _ (ps : List ℕ) (small : length ps ≤ topMark) (tree : Tree ps) where
       → ((j : ℕ) → length (flatten (ladders ps)) ≤ j → j < length l → getD l j 0 ≡ 0)
       → l ≡ padded (2 * length ps) (flatten (ladders ps))
   filled l n own above past =
-      ext-getD 0 l (padded (2 * length ps) (flatten (ladders ps))) (n ∙ sym (padded-length (2 * length ps) (flatten (ladders ps)) (ladders-fit ps small tree)))
+      ext-getD 0 l (padded (2 * length ps) (flatten (ladders ps))) (n ∙ sym (ladder-cells-length ps small tree))
       (λ j h. go j h (decLt j (length (flatten (ladders ps)))))
     where
       high : (j : ℕ) (a : Above ps j) (u : ℕ) → up ps (a .climbs) (a .top) ≡ some u → getD l j 0 ≡ getD (flatten (ladders ps)) j 0

@@ -7,6 +7,7 @@ pub mod RecordWords
 pub mod Microtrees
 pub mod Ladders
 pub mod Room
+pub mod SectionLengths
 pub mod PathTops
 pub mod LadderWords
 pub mod TableWords

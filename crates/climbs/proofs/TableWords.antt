@@ -1,21 +1,21 @@
 -- The words of a prepared table, cell by cell. Assumes nothing.
 use mathlib.Core.Path.{_≡_, refl, sym, ap, _∙_}
-use mathlib.Core.List.{List, [], _∷_, _++_, append-assoc, flatten, flatMap}
+use mathlib.Core.List.{List, _++_, append-assoc, flatten, flatMap}
 use mathlib.Core.Option.{Option·getD}
-use Prim.Native.Nat.{ℕ, _+_, _-_, _*_, _/_, _^_, _≤_, _<_}
+use Prim.Native.Nat.{ℕ, _+_, _*_, _^_, _≤_, _<_}
 use native.Mathlib.Omega.{arith}
-use lib.ListN.{length, getD, take, List·getD-append}
+use lib.ListN.{length, getD, List·getD-append}
 use lib.Seq.{getD-append-add, getD-take}
 use Rattle.base.specs.Lists.{below, padded}
-use Rattle.base.specs.Limits.{mostEntries, groupLimit, headerOf, entriesOf, jumpRoom, recordWords, tableWords, depthCell, kindCell, ladposCell, orderCell, preCell, sizeCell, ladderCell, positionCell, shapeCell, parentCell, jumpCell, ancestorCell, topMark}
+use Rattle.base.specs.Limits.{mostEntries, groupLimit, headerOf, jumpRoom, recordWords, tableWords, depthCell, kindCell, ladposCell, orderCell, preCell, sizeCell, ladderCell, positionCell, shapeCell, parentCell, jumpCell, ancestorCell, topMark}
 use Rattle.base.proofs.Lists.{below-at, each-length}
-use Rattle.base.proofs.Joins.{padded-length, padded-in}
+use Rattle.base.proofs.Joins.{padded-in}
 use Rattle.tree.specs.Parents.{parent, up, depth}
 use Rattle.tree.specs.Forest.{under, size, order, position}
 use Rattle.tree.specs.Faults.{Tree}
 use Rattle.tree.proofs.Positions.{order-length}
 use Rattle.shapes.specs.Walks.{walkRound, shapeNumber}
-use Rattle.table.specs.Ladders.{pathTops, ladders, ladPos}
+use Rattle.table.specs.Ladders.{ladders, ladPos}
 use Rattle.table.specs.Groups.{groupRoots, groupWords, jumpNodes, jumpRecord, kind}
 use Rattle.table.specs.Table.{header, entrySections, laidSections, tableOf}
 use Rattle.table.specs.Preparing.{Prepared}
@@ -24,6 +24,7 @@ use Rattle.answers.specs.Reading.{wordAt}
 use Rattle.climbs.proofs.Room.{ladders-fit}
 use Rattle.climbs.proofs.Groups.{groups-few}
 use Rattle.climbs.proofs.Jumps.{jumps-room}
+use Rattle.climbs.proofs.SectionLengths.{ladder-cells-length, group-cells-length}
 use Rattle.climbs.proofs.RecordWords.{groups-length, jumps-length, group-position, group-shape, group-parent, jump-depth, jump-ancestor}
 
 -- past a first list, and within it
@@ -95,11 +96,11 @@ module _ (ps t : List ℕ) (p : Prepared ps t) where
 
   rungs-length : length rungs ≡ 2 * length ps
   unfolding rungs
-  rungs-length = padded-length (2 * length ps) (flatten (ladders ps)) (ladders-fit ps small tree)
+  rungs-length = ladder-cells-length ps small tree
 
   triples-length : length triples ≡ 3 * length ps
   unfolding triples
-  triples-length = padded-length (3 * length ps) _ (omega (arith, groups-length groupLimit ps, groups-few ps small tree groupLimit))
+  triples-length = group-cells-length ps small tree
 
   -- a word of the table, by its place behind the header
   word-is : (c : ℕ) → c < tableWords (length ps) → wordAt t c ≡ getD (tableOf ps) c 0

@@ -1,31 +1,27 @@
 -- What preparing promises, from its answer and what it leaves. Assumes nothing.
-use mathlib.Core.Path.{_≡_, refl, sym, ap, _∙_}
+use mathlib.Core.Path.{_≡_, sym, _∙_}
 use mathlib.Core.Logic.{_↔_}
-use mathlib.Core.List.{List, _∷_, _++_, flatten, flatMap}
+use mathlib.Core.List.{List, _∷_}
 use mathlib.Core.Bool.{true}
-use mathlib.Core.Option.{none, Option·elim}
-use Prim.Native.Nat.{ℕ, _+_, _*_, _≤_}
+use mathlib.Core.Option.{Option·elim}
+use Prim.Native.Nat.{ℕ, _≤_}
 use native.Mathlib.Omega.{arith}
 use lib.ListN.{length, drop, length-append, length-drop}
 use lib.Seq.{take-at}
-use Rattle.base.specs.Lists.{below, has}
-use Rattle.base.specs.Limits.{mostEntries, groupLimit, jumpRoom, recordWords, tableWords, spaceWords, topMark}
+use Rattle.base.specs.Lists.{has}
+use Rattle.base.specs.Limits.{mostEntries, groupLimit, tableWords, spaceWords, topMark}
 use Rattle.base.proofs.Lists.{each-length}
-use Rattle.base.proofs.Joins.{padded-length}
 use Rattle.tree.specs.Parents.{depth}
-use Rattle.tree.specs.Forest.{size, order, position}
+use Rattle.tree.specs.Forest.{size, position}
 use Rattle.tree.specs.Faults.{Tree}
 use Rattle.tree.proofs.Positions.{order-length}
-use Rattle.table.specs.Ladders.{ladders, ladPos}
-use Rattle.table.specs.Groups.{groupRoots, groupWords, jumpNodes, jumpRecord, kind}
-use Rattle.table.specs.Table.{header, entrySections, ladderCells, groupCells, jumpCells, laidSections, tableOf}
-use Rattle.table.specs.Preparing.{refusal, preparing, tableAfter, spaceAfter, Prepared}
+use Rattle.table.specs.Ladders.{ladPos}
+use Rattle.table.specs.Groups.{kind}
+use Rattle.table.specs.Table.{header, entrySections, laidSections, tableOf}
+use Rattle.table.specs.Preparing.{preparing, tableAfter, spaceAfter, Prepared}
 use Rattle.table.proofs.Acceptance.{accepted-iff}
 use Rattle.table.proofs.Outcomes.{refusals, preparing-numbers, refusal-none, zero-iff}
-use Rattle.climbs.proofs.Room.{ladders-fit}
-use Rattle.climbs.proofs.Groups.{groups-few}
-use Rattle.climbs.proofs.Jumps.{jumps-few}
-use Rattle.climbs.proofs.RecordWords.{groups-length, jumps-length}
+use Rattle.climbs.proofs.SectionLengths.{ladder-cells-length, group-cells-length, jump-cells-length}
 use Rattle.base.specs.Numbers.{Says}
 
 -- the table of a list that forms one tree has W words
@@ -34,10 +30,7 @@ unfolding tableOf header entrySections laidSections
 table-length ps few tree =
     let small : length ps ≤ topMark = omega arith in
     let n = length ps in
-    let l : length (ladderCells ps) ≡ 2 * n = padded-length (2 * n) (flatten (ladders ps)) (ladders-fit ps small tree) in
-    let g : length (groupCells ps) ≡ 3 * n = padded-length (3 * n) (flatMap (groupWords groupLimit ps) (groupRoots groupLimit ps)) (omega (arith, groups-length groupLimit ps, groups-few ps small tree groupLimit)) in
-    let j : length (jumpCells ps) ≡ recordWords * jumpRoom n = padded-length (recordWords * jumpRoom n) (flatMap (jumpRecord ps) (jumpNodes groupLimit ps)) (omega (arith, jumps-length groupLimit ps, jumps-few ps small tree groupLimit)) in
-    simp length-append (omega (arith, each-length n 0 (depth ps), each-length n 0 (kind groupLimit ps), each-length n 0 (ladPos ps), order-length ps small tree, each-length n 0 (position ps), each-length n 0 (size ps), l, g, j))
+    simp length-append (omega (arith, each-length n 0 (depth ps), each-length n 0 (kind groupLimit ps), each-length n 0 (ladPos ps), order-length ps small tree, each-length n 0 (position ps), each-length n 0 (size ps), ladder-cells-length ps small tree, group-cells-length ps small tree, jump-cells-length ps small tree))
 
 module _ (ps table space : List ℕ) where
   -- acceptance leaves a prepared table

@@ -12,7 +12,7 @@ use lib.Seq.{getD-set-same, getD-set-other, ext-getD}
 use Rattle.base.specs.Limits.{mostEntries, groupLimit, recordWords}
 use Rattle.base.specs.Lists.{below}
 use Rattle.base.proofs.Lists.{below-at, each-length}
-use Rattle.base.proofs.Joins.{padded-length, padded-in}
+use Rattle.base.proofs.Joins.{padded-in}
 use Rattle.tree.specs.Parents.{up, depth}
 use Rattle.tree.proofs.Climbs.{entry-in, up-in, up-add}
 use Rattle.tree.proofs.Depths.{up-some, up-none}
@@ -22,6 +22,7 @@ use Rattle.table.specs.Groups.{jumpRecord}
 use Rattle.table.specs.Table.{ladderCells}
 use Rattle.climbs.proofs.Ladders.{ladpos-in, lemma-5}
 use Rattle.climbs.proofs.Room.{ladders-fit}
+use Rattle.climbs.proofs.SectionLengths.{ladder-cells-length}
 use Rattle.climbs.proofs.RecordWords.{jump-wide}
 use Rattle.prepare.specs.Arrays.{OneTree}
 use Rattle.prepare.proofs.Preorder.{small}
@@ -111,7 +112,7 @@ module _ {ps : List ℕ} (t : OneTree ps) (v : ℕ) (hv : v < length ps) where
 
         module _ (rungs : List ℕ) (re : rungs ≡ ladderCells ps) where
           pub place-high : getD places w 0 < length rungs
-          place-high = omega (arith, place-is, ladpos-in ps (small t) (t .tree) w hw, ladders-fit ps (small t) (t .tree), ap length re ∙ padded-length (2 * length ps) (flatten (ladders ps)) (ladders-fit ps (small t) (t .tree)))
+          place-high = omega (arith, place-is, ladpos-in ps (small t) (t .tree) w hw, ladders-fit ps (small t) (t .tree), ap length re ∙ ladder-cells-length ps (small t) (t .tree))
 
           abbrev x : ℕ
           x = getD rungs (getD places w 0 - s) 0

@@ -8,16 +8,13 @@ use lib.ListN.{length}
 use Rattle.base.specs.Lists.{below, view, put}
 use Rattle.base.specs.Limits.{groupLimit, jumpRoom, recordWords, tableWords}
 use Rattle.base.proofs.Lists.{each-length}
-use Rattle.base.proofs.Joins.{padded-length}
 use Rattle.base.proofs.Puts.{put-length, put-view, view-join, view-all, Apart, stays}
 use Rattle.tree.specs.Parents.{depth}
 use Rattle.tree.specs.Forest.{size, order, position}
 use Rattle.table.specs.Ladders.{ladPos}
 use Rattle.table.specs.Groups.{kind}
 use Rattle.table.specs.Table.{header, entrySections, laidSections, ladderCells, groupCells, jumpCells, tableOf}
-use Rattle.climbs.proofs.Room.{ladders-fit}
-use Rattle.climbs.proofs.Groups.{groups-few}
-use Rattle.climbs.proofs.RecordWords.{groups-length}
+use Rattle.climbs.proofs.SectionLengths.{ladder-cells-length, group-cells-length}
 use Rattle.prepare.specs.Arrays.{OneTree, kindsOf}
 use Rattle.prepare.specs.Stages.{Familied, Laddered, Sectioned}
 use Rattle.prepare.proofs.Preorder.{small, order-many}
@@ -67,7 +64,7 @@ module _ (ps : List ℕ) where
         let G = groupCells ps in
         let k = each-length n 0 (kind groupLimit ps) in
         let s = each-length n 0 (size ps) in
-        let g : length G ≡ 3 * n = padded-length (3 * n) _ (omega (arith, groups-length groupLimit ps, groups-few ps (small one) (one .tree) groupLimit)) in
+        let g : length G ≡ 3 * n = group-cells-length ps (small one) (one .tree) in
         let t₁ = put t (4 + n) K in
         let t₂ = put t₁ (4 + 5 * n) S in
         let b₀ : 4 + n + length K ≤ length t = omega arith in
@@ -87,7 +84,7 @@ module _ (ps : List ℕ) where
         let R = ladderCells ps in
         let L = below n (ladPos ps) in
         let l = each-length n 0 (ladPos ps) in
-        let r : length R ≡ 2 * n = padded-length (2 * n) _ (ladders-fit ps (small one) (one .tree)) in
+        let r : length R ≡ 2 * n = ladder-cells-length ps (small one) (one .tree) in
         let t₁ = put t (4 + 6 * n) R in
         let b₀ : 4 + 6 * n + length R ≤ length t = omega arith in
         let long₁ = put-length t (4 + 6 * n) R b₀ in
