@@ -59,11 +59,14 @@ pub record Sectioned (ps table : List ℕ) : Type 0 where
   pub orders : view (orderStart (length ps)) (length ps) table ≡ order ps
   pub pres : view (preStart (length ps)) (length ps) table ≡ below (length ps) (position ps)
 
--- what a record is filled from: DEPTH, LADPOS, and the ladders from a cell on
-pub record Reached (ps : List ℕ) (ladders : ℕ) (table : List ℕ) : Type 0 where
+-- DEPTH, LADPOS and LADDERS, each from some cell on, end before a cell
+abbrev pub EndsBefore : List ℕ → ℕ → ℕ → ℕ → ℕ → Type 0
+EndsBefore ps depthAt ladposAt laddersAt cell = (depthAt + length ps ≤ cell) × (ladposAt + length ps ≤ cell) × (laddersAt + 2 * length ps ≤ cell)
+
+-- what a record is filled from: the words of these three, wherever in a table they stand
+pub record Reached (ps : List ℕ) (depthAt ladposAt laddersAt : ℕ) (table : List ℕ) : Type 0 where
   pub one : OneTree ps
-  pub long : 4 + 3 * length ps ≤ length table
-  pub fits : ladders + 2 * length ps ≤ length table
-  pub depths : view (depthStart (length ps)) (length ps) table ≡ below (length ps) (depth ps)
-  pub places : view (ladposStart (length ps)) (length ps) table ≡ below (length ps) (ladPos ps)
-  pub rungs : view ladders (2 * length ps) table ≡ ladderCells ps
+  pub fits : EndsBefore ps depthAt ladposAt laddersAt (length table)
+  pub depths : view depthAt (length ps) table ≡ below (length ps) (depth ps)
+  pub places : view ladposAt (length ps) table ≡ below (length ps) (ladPos ps)
+  pub rungs : view laddersAt (2 * length ps) table ≡ ladderCells ps

@@ -7,7 +7,7 @@ ghost use Rattle.base.specs.Lists.{put};
 ghost use Rattle.base.specs.Limits.{tableWords, groupLimit, recordWords, jumpsStart};
 ghost use Rattle.table.specs.Groups.{jumpNodes, jumpRecord};
 ghost use Rattle.table.specs.Table.{jumpCells};
-ghost use Rattle.prepare.specs.Stages.{Walked, Sectioned, Reached};
+ghost use Rattle.prepare.specs.Stages.{Walked, Sectioned, Reached, EndsBefore};
 use crate::jumps::jump_nodes;
 use crate::jumps::record;
 use crate::places::ABOVES;
@@ -42,36 +42,58 @@ pub(crate) fn jump_section(parents: &[u32], jumps: u32, table: &mut [u32], space
     records(
         parents,
         table,
+        HEADER_CELLS,
+        HEADER_CELLS + LADPOS * n,
         HEADER_CELLS + LADDERS * n,
         first,
         &space[b..b + jumps as usize],
     );
 }
 
-// The records of the entries of a list, one behind another. Where the ladders lie is worked out once.
-fn records(parents: &[u32], table: &mut [u32], ladders: usize, first: usize, nodes: &[u32])
-    requires { ⌜ Reached (now parents) ladders (now table) × (4 + 3 * length (now parents) ≤ first) × (ladders + 2 * length (now parents) ≤ first) × (first + recordWords * length (now nodes) ≤ length (now table)) × ((i : ℕ) → i < length (now nodes) → getD (now nodes) i 0 < length (now parents)) ⌝ }
+// The records of the entries of a list, one behind another from `first` on. DEPTH, LADPOS and LADDERS, which they are filled from, lie before that.
+fn records(
+    parents: &[u32],
+    table: &mut [u32],
+    depths: usize,
+    ladpos: usize,
+    ladders: usize,
+    first: usize,
+    nodes: &[u32],
+)
+    requires { ⌜ Reached (now parents) depths ladpos ladders (now table) × EndsBefore (now parents) depths ladpos ladders first × (first + recordWords * length (now nodes) ≤ length (now table)) × ((i : ℕ) → i < length (now nodes) → getD (now nodes) i 0 < length (now parents)) ⌝ }
     ensures { λ _. ⌜ now (table .exit) ≡ put (now (table .entry)) first (flatMap (jumpRecord (now (parents .entry))) (now (nodes .entry))) ⌝ }
 {
     let mut at = first;
     let mut i: usize = 0;
     while i < nodes.len() {
-        fill_record(parents, table, ladders, at, Node(nodes[i]));
+        fill_record(parents, table, depths, ladpos, ladders, at, Node(nodes[i]));
         at += RECORD_WORDS;
         i += 1;
     }
 }
 
-// The record of an entry, from DEPTH, LADPOS and the ladders, which lie wherever they are said to, into the words from `at` on.
-fn fill_record(parents: &[u32], table: &mut [u32], ladders: usize, at: usize, v: Node)
-    requires { ⌜ Reached (now parents) ladders (now table) × (v .0 < length (now parents)) × (at + recordWords ≤ length (now table)) ⌝ }
-    ensures { λ _. ⌜ now (table .exit) ≡ put (now (table .entry)) at (jumpRecord (now (parents .entry)) (v .0)) ⌝ }
+// The record of an entry, into the words from `at` on, from DEPTH, LADPOS and LADDERS, each at its place. All four may lie anywhere in the table, the record over the
+// others too: none of its words is stored before all are worked out.
+fn fill_record(
+    parents: &[u32],
+    table: &mut [u32],
+    depths: usize,
+    ladpos: usize,
+    ladders: usize,
+    at: usize,
+    v: Node,
+)
+    requires { ⌜ Reached (now parents) depths ladpos ladders (now table) × (v .0 < length (now parents)) × (at + recordWords ≤ length (now table)) ⌝ }
+    ensures filled { λ _. ⌜ now (table .exit) ≡ put (now (table .entry)) at (jumpRecord (now (parents .entry)) (v .0)) ⌝ }
 {
     let n = parents.len();
-    let a = HEADER_CELLS + LADPOS * n;
-    let b = a + n;
-    let end = ladders + LADDER_WORDS * n;
-    let deep = table[HEADER_CELLS + v.0 as usize];
-    let words = record(parents, &table[a..b], &table[ladders..end], deep, v);
+    let deep = table[depths + v.0 as usize];
+    let words = record(
+        parents,
+        &table[ladpos..ladpos + n],
+        &table[ladders..ladders + LADDER_WORDS * n],
+        deep,
+        v,
+    );
     copy(&words[..], &mut table[at..at + RECORD_WORDS]);
 }

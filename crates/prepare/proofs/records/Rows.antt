@@ -12,7 +12,6 @@ use Rattle.base.specs.Lists.{view, put, padded}
 use Rattle.base.specs.Limits.{groupLimit, jumpRoom, recordWords, tableWords}
 use Rattle.base.proofs.Lists.{below-at, drop-zeros}
 use Rattle.base.proofs.Places.{stands}
-use Rattle.base.proofs.Joins.{padded-length}
 use Rattle.base.proofs.Filters.{keep-in}
 use Rattle.base.proofs.Puts.{lent-back, put-length, put-view, put-inside, put-none, put-more, put-over, lent, came-filled, stays}
 use Rattle.base.proofs.Rows.{rows-length, rows-more}
@@ -25,52 +24,53 @@ use Rattle.table.specs.Ladders.{pathTops}
 use Rattle.table.specs.Table.{header, jumpCells, tableOf}
 use Rattle.climbs.proofs.Jumps.{jumps-few}
 use Rattle.climbs.proofs.RecordWords.{jump-wide, jumps-length}
+use Rattle.climbs.proofs.SectionLengths.{jump-cells-length}
 use Rattle.prepare.specs.Arrays.{OneTree}
-use Rattle.prepare.specs.Stages.{Sectioned, Reached}
+use Rattle.prepare.specs.Stages.{Sectioned, Reached, EndsBefore}
 use Rattle.prepare.proofs.Preorder.{small}
 use Rattle.prepare.proofs.sections.Whole.{sectioned-put, whole-table}
 
 -- what one record is filled from
-module _ {ps : List ℕ} {ladders : ℕ} {t : List ℕ} (r : Reached ps ladders t) where
-  pub record-depth : (v : ℕ) → v < length ps → getD t (4 + v) 0 ≡ depth ps v
-  record-depth v h = view-at 4 (length ps) t v (4 + v) h refl ∙ ap (λ l. getD l v 0) (r .depths) ∙ below-at (length ps) (depth ps) 0 v h
+module _ {ps : List ℕ} {d p l : ℕ} {t : List ℕ} (r : Reached ps d p l t) where
+  pub record-depth : (v : ℕ) → v < length ps → getD t (d + v) 0 ≡ depth ps v
+  record-depth v h = view-at d (length ps) t v (d + v) h refl ∙ ap (λ w. getD w v 0) (r .depths) ∙ below-at (length ps) (depth ps) 0 v h
 
   -- words behind all of it leave it
-  pub reached-put : (a : ℕ) (x : List ℕ) → 4 + 3 * length ps ≤ a → ladders + 2 * length ps ≤ a → a + length x ≤ length t → Reached ps ladders (put t a x)
-  reached-put a x h k b = record {
-    one = r .one;
-    long = omega (arith, put-length t a x b, r .long);
-    fits = omega (arith, put-length t a x b, r .fits);
-    depths = stays t a x b 4 (length ps) (inl (omega arith)) ∙ r .depths;
-    places = stays t a x b (4 + 2 * length ps) (length ps) (inl (omega arith)) ∙ r .places;
-    rungs = stays t a x b ladders (2 * length ps) (inl (omega arith)) ∙ r .rungs;
-  }
+  pub reached-put : (a : ℕ) (x : List ℕ) → EndsBefore ps d p l a → a + length x ≤ length t → Reached ps d p l (put t a x)
+  reached-put a x h b =
+      let long = put-length t a x b in
+      record {
+        one = r .one;
+        fits = (omega (arith, long, r .fits .0), omega (arith, long, r .fits .1), omega (arith, long, r .fits .2));
+        depths = stays t a x b d (length ps) (inl (h .0)) ∙ r .depths;
+        places = stays t a x b p (length ps) (inl (h .1)) ∙ r .places;
+        rungs = stays t a x b l (2 * length ps) (inl (h .2)) ∙ r .rungs;
+      }
 
 -- the records of the first i entries of a list, from `first` on, behind all that they are filled from
-pub record RowsBefore (ps : List ℕ) (ladders first : ℕ) (nodes old : List ℕ) (table : List ℕ) (at i : ℕ) : Type 0 where
+pub record RowsBefore (ps : List ℕ) (d p l first : ℕ) (nodes old : List ℕ) (table : List ℕ) (at i : ℕ) : Type 0 where
   pub room : first + recordWords * length nodes ≤ length old
-  pub behind : (4 + 3 * length ps ≤ first) × (ladders + 2 * length ps ≤ first)
+  pub behind : EndsBefore ps d p l first
   pub place : at ≡ first + recordWords * i
   pub within : i ≤ length nodes
   pub laid : table ≡ put old first (flatMap (jumpRecord ps) (take i nodes))
   pub long : length table ≡ length old
-  pub reached : Reached ps ladders table
+  pub reached : Reached ps d p l table
 
-pub rows-none : {ps : List ℕ} {ladders first : ℕ} {nodes old : List ℕ} → first + recordWords * length nodes ≤ length old → 4 + 3 * length ps ≤ first → ladders + 2 * length ps ≤ first → Reached ps ladders old
-    → RowsBefore ps ladders first nodes old old first 0
+pub rows-none : {ps : List ℕ} {d p l first : ℕ} {nodes old : List ℕ} → first + recordWords * length nodes ≤ length old → EndsBefore ps d p l first → Reached ps d p l old → RowsBefore ps d p l first nodes old old first 0
 unfolding flatMap
-rows-none {first = first} {old = old} h a b r = record { room = h; behind = (a, b); place = omega arith; within = omega arith; laid = sym (put-none old first); long = refl; reached = r }
+rows-none {first = first} {old = old} h b r = record { room = h; behind = b; place = omega arith; within = omega arith; laid = sym (put-none old first); long = refl; reached = r }
 
-module _ {ps : List ℕ} {ladders first : ℕ} {nodes old table : List ℕ} {at i : ℕ} (s : RowsBefore ps ladders first nodes old table at i) where
+module _ {ps : List ℕ} {d p l first : ℕ} {nodes old table : List ℕ} {at i : ℕ} (s : RowsBefore ps d p l first nodes old table at i) where
   pub rows-all : length nodes ≤ i → table ≡ put old first (flatMap (jumpRecord ps) nodes)
-  rows-all h = s .laid ∙ ap (λ l. put old first (flatMap (jumpRecord ps) l)) (take-all i nodes h)
+  rows-all h = s .laid ∙ ap (λ vs. put old first (flatMap (jumpRecord ps) vs)) (take-all i nodes h)
 
   module _ (h : i < length nodes) where
     pub rows-room : at + recordWords ≤ length table
     rows-room = omega (arith, s .place, s .long, s .room)
 
-    pub rows-next : (new : List ℕ) → new ≡ put table at (jumpRecord ps (getD nodes i 0)) → length new ≡ length table → RowsBefore ps ladders first nodes old new (at + recordWords) (i + 1)
-    rows-next new e l =
+    pub rows-next : (new : List ℕ) → new ≡ put table at (jumpRecord ps (getD nodes i 0)) → length new ≡ length table → RowsBefore ps d p l first nodes old new (at + recordWords) (i + 1)
+    rows-next new e same =
         let x = jumpRecord ps (getD nodes i 0) in
         let rows = flatMap (jumpRecord ps) (take i nodes) in
         let w = jump-wide groupLimit ps (getD nodes i 0) in
@@ -84,15 +84,12 @@ module _ {ps : List ℕ} {ladders first : ℕ} {nodes old table : List ℕ} {at 
           place = omega (arith, s .place);
           within = omega arith;
           laid = e ∙ both ∙ ap (put old first) (sym q);
-          long = l ∙ s .long;
-          reached = rw e (reached-put (s .reached) at x (omega (arith, s .place, s .behind .0)) (omega (arith, s .place, s .behind .1)) (omega (arith, rows-room)));
+          long = same ∙ s .long;
+          reached = rw e (reached-put (s .reached) at x (omega (arith, s .place, s .behind .0), omega (arith, s .place, s .behind .1), omega (arith, s .place, s .behind .2)) (omega (arith, rows-room)));
         }
 
 -- JUMPS as a whole: the list of the jump entries, and their records over zeros
 module _ {ps t : List ℕ} (one : OneTree ps) (s : Sectioned ps t) (long : length t ≡ tableWords (length ps)) where
-  reached-of : Reached ps (4 + 6 * length ps) t
-  reached-of = record { one = one; long = omega arith; fits = omega arith; depths = s .depths; places = s .paths .places; rungs = s .paths .rungs }
-
   pub nodes-few : (recordWords * length (jumpNodes groupLimit ps) ≤ recordWords * jumpRoom (length ps)) × (length (jumpNodes groupLimit ps) ≤ length ps)
   nodes-few = let f = jumps-few ps (small one) (one .tree) groupLimit in (omega arith, omega arith)
 
@@ -131,15 +128,12 @@ module _ {ps t : List ℕ} (one : OneTree ps) (s : Sectioned ps t) (long : lengt
   zeros-put cells e = came-filled first (length t) (recordWords * jumpRoom (length ps)) 0 t cells (omega arith) (omega arith) e
 
   pub ready : (t₁ nodes : List ℕ) → t₁ ≡ put t first zeros → nodes ≡ jumpNodes groupLimit ps
-      → Reached ps (4 + 6 * length ps) t₁ × (4 + 3 * length ps ≤ first) × (4 + 6 * length ps + 2 * length ps ≤ first) × (first + recordWords * length nodes ≤ length t₁) × ((i : ℕ) → i < length nodes → getD nodes i 0 < length ps)
+      → Reached ps 4 (4 + 2 * length ps) (4 + 6 * length ps) t₁ × EndsBefore ps 4 (4 + 2 * length ps) (4 + 6 * length ps) first × (first + recordWords * length nodes ≤ length t₁) × ((i : ℕ) → i < length nodes → getD nodes i 0 < length ps)
   ready t₁ nodes e f =
-      let b : first + length zeros ≤ length t = omega (arith, zeros-wide) in (
-        rw e (reached-put reached-of first zeros (omega arith) (omega arith) b),
-        omega arith,
-        omega arith,
-        omega (arith, ap length e, ap length f, put-length t first zeros b, nodes-few .0),
-        rw f nodes-in,
-      )
+      let reached : Reached ps 4 (4 + 2 * length ps) (4 + 6 * length ps) t = record { one = one; fits = (omega arith, omega arith, omega arith); depths = s .depths; places = s .paths .places; rungs = s .paths .rungs } in
+      let behind : EndsBefore ps 4 (4 + 2 * length ps) (4 + 6 * length ps) first = (omega arith, omega arith, omega arith) in
+      let b : first + length zeros ≤ length t = omega (arith, zeros-wide) in
+      (rw e (reached-put reached first zeros behind b), behind, omega (arith, ap length e, ap length f, put-length t first zeros b, nodes-few .0), rw f nodes-in)
 
   -- the records over zeros
   pub jumps-laid : (t₁ nodes new : List ℕ) → t₁ ≡ put t first zeros → nodes ≡ jumpNodes groupLimit ps → new ≡ put t₁ first (flatMap (jumpRecord ps) nodes) → new ≡ put t first (jumpCells ps)
@@ -157,7 +151,7 @@ module _ {ps t : List ℕ} (one : OneTree ps) (s : Sectioned ps t) (long : lengt
   finished t₁ t₂ jumps groups paths ej eg ep e₁ e₂ =
       let m = recordWords * jumpRoom (length ps) in
       let h = length ps ∷ jumps ∷ groups ∷ paths ∷ [] in
-      let wide : length (jumpCells ps) ≡ m = padded-length m _ (omega (arith, jumps-length groupLimit ps, nodes-few .0)) in
+      let wide : length (jumpCells ps) ≡ m = jump-cells-length ps (small one) (one .tree) in
       let l₁ = put t first (jumpCells ps) in
       let b₀ : first + length (jumpCells ps) ≤ length t = omega arith in
       let long₁ = put-length t first (jumpCells ps) b₀ in

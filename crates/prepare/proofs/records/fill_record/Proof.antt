@@ -16,9 +16,10 @@ record-requires c κs =
     let s = c .before .before .before .before .before .before .before in
     let n = length (s .args .parents .now) in
     let t = s .args .table .now in
+    let p = s .args .ladpos in
     let l = s .args .ladders in
     let r = s .pre .0 in
-    (r .one, lent (4 + 2 * n) (4 + 2 * n + n) n t _ refl (r .places), lent l (l + 2 * n) (2 * n) t _ refl (r .rungs), s .pre .1, record-depth r (s .args .v .0) (s .pre .1))
+    (r .one, lent p (p + n) n t _ refl (r .places), lent l (l + 2 * n) (2 * n) t _ refl (r .rungs), s .pre .1, record-depth r (s .args .v .0) (s .pre .1))
 
 returns : tie.Need-returns
 returns c =
@@ -30,8 +31,6 @@ pub fill-record-spec : {M : Type 1} → statement M
 fill-record-spec =
     tie.close
     (tie.spec
-    (λ c. search needs)
-    (λ c. search needs)
     (λ c. search needs)
     (λ c. search needs)
     (λ c. search needs)

@@ -97,6 +97,8 @@ jump-section-spec =
     (λ c. search needs)
     (λ c. search needs)
     (λ c. search needs)
+    (λ c. search needs)
+    (λ c. search needs)
     part-records-end
     records-requires
     (λ c. search needs)

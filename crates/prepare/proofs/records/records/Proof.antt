@@ -8,16 +8,16 @@ use Rattle.prepare.proofs.records.records.Statement.{statement}
 use Rattle.prepare.proofs.records.records.Tie as tie
 
 abbrev Inv-loop : tie.InvT-loop
-Inv-loop parents table₀ ladders first nodes at₀ i₀ table at i = RowsBefore parents ladders first nodes table₀ table at i
+Inv-loop parents table₀ depths ladpos ladders first nodes at₀ i₀ table at i = RowsBefore parents depths ladpos ladders first nodes table₀ table at i
 
 abbrev μ-loop : tie.MeasureT-loop
-μ-loop parents table₀ ladders first nodes at₀ i₀ table at i = length nodes - i
+μ-loop parents table₀ depths ladpos ladders first nodes at₀ i₀ table at i = length nodes - i
 
 fill-record-requires : tie.Need-fill-record-requires Inv-loop μ-loop
 fill-record-requires c κs =
     let l = c .before .before .before .loop in
     let s = c .before .before .before .before .before .before .before in
-    (l .inv .reached, s .pre .4 (l .i) (omega arith), rows-room (l .inv) (omega arith))
+    (l .inv .reached, s .pre .3 (l .i) (omega arith), rows-room (l .inv) (omega arith))
 
 loop-again : tie.Need-loop-again Inv-loop μ-loop
 loop-again c =
@@ -30,7 +30,7 @@ records-spec =
     (tie.spec
     Inv-loop
     μ-loop
-    (λ c. let s = c .before .before .before in rows-none (s .pre .3) (s .pre .1) (s .pre .2) (s .pre .0))
+    (λ c. let s = c .before .before .before in rows-none (s .pre .2) (s .pre .1) (s .pre .0))
     (λ c. search needs)
     (λ c. search needs)
     fill-record-requires
