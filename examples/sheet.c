@@ -1,5 +1,5 @@
-/* Prepares a top with two classes below it, checks sheets of level 1 and quotes from the good one: prints each verdict, and
- * class and cents of each sum, or the refusal. */
+/* Prepares a top with two entries below it, checks sheets of level 1, which cover these three, and quotes from the good one:
+ * prints each verdict, and class and cents of each sum, or the refusal. */
 #include "tantsheko.h"
 #include <inttypes.h>
 #include <stdio.h>
@@ -11,9 +11,9 @@ int main(void) {
     const uint32_t parents[ENTRIES] = {TANTSHEKO_TOP, 0, 0, 1, 2};
     const char *const sheets[SHEETS] = {
         "1,0,2000000000\n",
-        "2,0,2000000000,500\n1,0,999,2000\n1,1001,2000000000,1000\n",
-        "2,0,2000000000,500\n1,0,1000,2000\n1,1000,2000000000,1000\n",
-        "2,0,2000000000,500\n1,1000,2000000000,1000\n1,0,999,2000\n",
+        "0,0,2000000000,700\n2,0,2000000000,500\n1,0,999,2000\n1,1001,2000000000,1000\n",
+        "0,0,2000000000,700\n2,0,2000000000,500\n1,0,1000,2000\n1,1000,2000000000,1000\n",
+        "0,0,2000000000,700\n2,0,2000000000,500\n1,1000,2000000000,1000\n1,0,999,2000\n",
     };
     const int64_t sums[SUMS] = {25, -999, 1000, -2000000000, 2000000001};
     uint32_t table[WORDS], space[6 * ENTRIES];

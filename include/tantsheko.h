@@ -26,12 +26,12 @@ enum tantsheko_number {
     TANTSHEKO_TOPS = 5,        /* not exactly one top: the second-lowest top, or n */
     TANTSHEKO_LOOP = 6,        /* a climb never meets the top: the lowest such entry */
     TANTSHEKO_UNKNOWN = 7,     /* an argument is no entry: the first such argument */
-    TANTSHEKO_TOO_DEEP = 8,    /* deeper than the entry: the entry */
+    TANTSHEKO_TOO_DEEP = 8,    /* deeper than the entry: the entry. Level lookup and climb alone give it */
     TANTSHEKO_BROKEN = 9,      /* the table is not one that the question can be answered from: 0 */
     TANTSHEKO_NOT_ABOVE = 10,  /* u is not strictly above v: u */
     TANTSHEKO_BAD_RATE = 11,   /* the class's rate is over 1,000,000, or past the list's end: 0 */
     TANTSHEKO_BAD_SUM = 12,    /* the sum is outside -2,000,000,000 to 2,000,000,000: 0 */
-    TANTSHEKO_BAD_LINE = 13,   /* a sheet's line is no band of a class of its level: the first such line, from 1 */
+    TANTSHEKO_BAD_LINE = 13,   /* a sheet's line is no band of a class that it is to cover: the first such line, from 1 */
     TANTSHEKO_GAP = 14,        /* an amount of a class is in no band of the sheet: the class, and the amount beside it */
     TANTSHEKO_OVERLAP = 15     /* an amount of a class is in more than one band of the sheet: likewise */
 };
@@ -85,7 +85,8 @@ void tantsheko_level(const uint32_t *table, size_t table_len, uint32_t v, uint32
 /* The entry k climbs above v. Reads at most ten cells. */
 void tantsheko_climb(const uint32_t *table, size_t table_len, uint32_t v, uint32_t k, tantsheko_answer *answer);
 
-/* The class of entry v at rating level d. Reads at most ten cells. */
+/* The class of entry v at rating level d: its ancestor at that depth, or v itself where it is less deep. Reads at most ten
+ * cells. */
 void tantsheko_rating(const uint32_t *table, size_t table_len, uint32_t v, uint32_t d, tantsheko_answer *answer);
 
 /* Whether u is at or above v: the result is 1 or 0. */
@@ -101,9 +102,9 @@ void tantsheko_premium(const uint32_t *table, size_t table_len, const uint32_t *
                        uint32_t d, int64_t sum, tantsheko_answer *answer, int64_t *cents);
 
 /* Checks a sheet of rating level d: a text of at most 4,096 lines `class,from,to,rate` in any order, each ended by a line
- * feed, in digits alone. A line is a class of depth d, a band of amounts, ends included, and its rate per million; each class
- * of depth d must have every amount from 0 to 2,000,000,000 in one band only. Refuses, in this order: 9, the first bad line,
- * and the lowest faulty amount of the lowest class at fault, as a gap or an overlap. Lists no cells. */
+ * feed, in digits alone. A line is a class, a band of amounts, ends included, and its rate per million. Each entry of depth d
+ * or less is a class, and must have every amount from 0 to 2,000,000,000 in one band only. Refuses, in this order: 9, the first
+ * bad line, and the lowest faulty amount of the lowest class at fault, as a gap or an overlap. Lists no cells. */
 void tantsheko_sheet(const uint32_t *table, size_t table_len, const uint8_t *text, size_t text_len, uint32_t d,
                      tantsheko_verdict *verdict);
 
@@ -121,8 +122,8 @@ void tantsheko_price(const uint32_t *table, size_t table_len, const uint8_t *tex
                      int64_t sum, tantsheko_answer *answer, uint32_t *amount, int64_t *cents);
 
 /* The same by a checked sheet, at the level it was checked for: finds the band by halving. On a table that the sheet was not
- * checked for, a class without a band for the sum is 14 likewise. By words that no check wrote the number may be any of 0, 7, 8,
- * 9, 12 and 14. */
+ * checked for, a class without a band for the sum is 14 likewise. By words that no check wrote the number may be any of 0, 7, 9,
+ * 12 and 14. */
 void tantsheko_quotation(const uint32_t *table, size_t table_len, const uint64_t *sheet, uint32_t v, int64_t sum,
                      tantsheko_answer *answer, uint32_t *amount, int64_t *cents);
 

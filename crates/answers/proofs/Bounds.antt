@@ -5,7 +5,7 @@ use Prim.Native.Nat.{ℕ, zero, suc}
 use lib.Dec.{leb, ltb, eqb}
 use Rattle.base.specs.Numbers.{Outcome}
 use Rattle.answers.specs.Reading.{Reading, done, read, ifLe, ifLt, ifEq, ifNone, andThen, Within}
-use Rattle.answers.specs.Steps.{afterClass, afterCount, opened, afterLadpos, afterAncestor, readAncestor, afterJumpDepth, fromJump, afterParentKind, afterParent, afterPosition, inGroup, afterShape, fromGroup, afterKind, ancestorAt, afterDepth, fromEntry, level, climbing, rating, compared, related, ancestry, inside, deeper, strictly, branch}
+use Rattle.answers.specs.Steps.{afterClass, afterCount, opened, afterLadpos, afterAncestor, readAncestor, afterJumpDepth, fromJump, afterParentKind, afterParent, afterPosition, inGroup, afterShape, fromGroup, afterKind, ancestorAt, afterDepth, fromEntry, level, climbing, fromRated, rating, compared, related, ancestry, inside, deeper, strictly, branch}
 
 -- the bound of a program from those of its parts
 pub within-done : (b : ℕ) (o : Outcome) → Within b (done o)
@@ -56,11 +56,16 @@ pub jump-within : (n d jump : ℕ) → Within 4 (fromJump n d jump)
 unfolding fromJump afterJumpDepth readAncestor afterAncestor afterLadpos afterClass Within
 jump-within n d jump = search bounds depth 40
 
+-- eight behind DEPTH
+depth-within : (n : ℕ) (climbs : Bool) (v x depth : ℕ) → Within 8 (afterDepth n climbs v x depth)
+unfolding afterDepth ancestorAt afterKind fromGroup afterShape inGroup afterPosition afterParent afterParentKind fromJump afterJumpDepth readAncestor afterAncestor afterLadpos afterClass Within
+depth-within n climbs v x depth = search bounds depth 40
+
 -- ten cells for the level lookup, a climb and a rating, four for ancestry, fifteen for branch
 module _ (len : ℕ) where
   pub look-within : (climbs : Bool) (v x : ℕ) → Within 10 (opened len (fromEntry climbs v x))
-  unfolding opened afterCount fromEntry afterDepth ancestorAt afterKind fromGroup afterShape inGroup afterPosition afterParent afterParentKind fromJump afterJumpDepth readAncestor afterAncestor afterLadpos afterClass Within
-  look-within climbs v x = search bounds depth 40
+  unfolding opened afterCount fromEntry Within
+  look-within climbs v x = search (bounds, depth-within) depth 40
 
   pub level-within : (v d : ℕ) → Within 10 (level len v d)
   unfolding level
@@ -71,8 +76,8 @@ module _ (len : ℕ) where
   climbing-within v k = look-within true v k
 
   pub rating-within : (v d : ℕ) → Within 10 (rating len v d)
-  unfolding rating
-  rating-within v d = level-within v d
+  unfolding rating opened afterCount fromRated Within
+  rating-within v d = search (bounds, depth-within) depth 40
 
   pub ancestry-within : (u v : ℕ) → Within 4 (ancestry len u v)
   unfolding ancestry opened afterCount related compared Within

@@ -7,3 +7,4 @@ pub mod Numbers
 pub mod Runs
 pub mod KnownWords
 pub mod AnswerWords
+pub mod Ratings

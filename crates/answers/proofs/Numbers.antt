@@ -3,14 +3,16 @@ use mathlib.Core.Path.{_≡_, refl}
 use mathlib.Core.List.{List, [], _∷_}
 use mathlib.Core.Bool.{Bool, true, false, cond}
 use mathlib.Core.Option.{Option, none, some, Option·elim}
-use Prim.Native.Nat.{ℕ}
+use Prim.Native.Nat.{ℕ, _≤_, min}
+use native.Mathlib.Omega.{arith}
 use lib.Dec.{leb, ltb, eqb}
+use borrow.Author.Tests.{le-ltb}
 use Rattle.base.specs.Lists.{some?, has}
 use Rattle.base.specs.Numbers.{Outcome}
 use Rattle.base.specs.Numbers.{broken as brokenTable}
 use Rattle.base.proofs.Lists.{clash}
 use Rattle.answers.specs.Reading.{Reading, done, read, ifLe, ifLt, ifEq, ifNone, andThen, wordAt, run}
-use Rattle.answers.specs.Steps.{afterClass, afterCount, opened, afterLadpos, afterAncestor, readAncestor, afterJumpDepth, fromJump, afterParentKind, afterParent, afterPosition, inGroup, afterShape, fromGroup, afterKind, ancestorAt, afterDepth, fromEntry, level, climbing, rating, compared, related, ancestry, inside, deeper, strictly, branch}
+use Rattle.answers.specs.Steps.{afterClass, afterCount, opened, afterLadpos, afterAncestor, readAncestor, afterJumpDepth, fromJump, afterParentKind, afterParent, afterPosition, inGroup, afterShape, fromGroup, afterKind, ancestorAt, afterDepth, fromEntry, level, climbing, fromRated, rating, compared, related, ancestry, inside, deeper, strictly, branch}
 
 -- every end of a program has a number of the list
 unfoldable pub Ends : List ℕ → Reading → Type 0
@@ -48,6 +50,11 @@ module _ (ns : List ℕ) where
     unfolding ifEq
     ends-eq = ends-cond (eqb x y) p q h i
 
+  -- a test that fails has no end of its own
+  ends-not-lt : (x y : ℕ) (p q : Reading) → y ≤ x → Ends ns q → Ends ns (ifLt x y p q)
+  unfolding ifLt
+  ends-not-lt x y p q h i = rw (le-ltb x y h) i
+
   pub ends-none : (o : Option ℕ) (p : Reading) (q : ℕ → Reading) → Ends ns p → ((e : ℕ) → Ends ns (q e)) → Ends ns (ifNone o p q)
   unfolding ifNone Option·elim
   ends-none none p q h i = h
@@ -55,13 +62,29 @@ module _ (ns : List ℕ) where
 
 pub ruleset numbers = (ends-done, ends-read, ends-le, ends-lt, ends-eq, ends-none)
 
+-- past its tests the lookup gives 0 or 9
+module _ (ns : List ℕ) (zero : has ns 0 ≡ true) (nine : has ns 9 ≡ true) where
+  ancestor-ends : (n v d depth : ℕ) → Ends ns (ancestorAt n v d depth)
+  unfolding ancestorAt afterKind fromGroup afterShape inGroup afterPosition afterParent afterParentKind fromJump afterJumpDepth readAncestor afterAncestor afterLadpos afterClass Ends
+  ancestor-ends n v d depth = search numbers depth 40
+
 abbrev pub lookupNumbers : List ℕ
 lookupNumbers = 0 ∷ 7 ∷ 8 ∷ 9 ∷ []
 
+-- no rating is too deep
+abbrev pub ratingNumbers : List ℕ
+ratingNumbers = 0 ∷ 7 ∷ 9 ∷ []
+
+smaller-ends : (n v d depth : ℕ) → Ends ratingNumbers (afterDepth n false v (min d depth) depth)
+unfolding afterDepth some?
+smaller-ends n v d depth =
+    ends-le ratingNumbers n depth _ _ (ends-done ratingNumbers _ refl)
+    (ends-not-lt ratingNumbers depth (min d depth) _ _ (omega arith) (ancestor-ends ratingNumbers refl refl n v (min d depth) depth))
+
 module _ (len : ℕ) where
   looked : (climbs : Bool) (v x : ℕ) → Ends lookupNumbers (opened len (fromEntry climbs v x))
-  unfolding opened afterCount fromEntry afterDepth ancestorAt afterKind fromGroup afterShape inGroup afterPosition afterParent afterParentKind fromJump afterJumpDepth readAncestor afterAncestor afterLadpos afterClass Ends some?
-  looked climbs v x = search numbers depth 40
+  unfolding opened afterCount fromEntry afterDepth Ends some?
+  looked climbs v x = let rest = ancestor-ends lookupNumbers refl refl in search (numbers, rest) depth 40
 
   pub level-numbers : (v d : ℕ) → Ends lookupNumbers (level len v d)
   unfolding level
@@ -71,9 +94,9 @@ module _ (len : ℕ) where
   unfolding climbing
   climbing-numbers v k = looked true v k
 
-  pub rating-numbers : (v d : ℕ) → Ends lookupNumbers (rating len v d)
-  unfolding rating
-  rating-numbers v d = level-numbers v d
+  pub rating-numbers : (v d : ℕ) → Ends ratingNumbers (rating len v d)
+  unfolding rating opened afterCount fromRated Ends some?
+  rating-numbers v d = search (numbers, smaller-ends) depth 40
 
   pub ancestry-numbers : (u v : ℕ) → Ends (0 ∷ 7 ∷ 9 ∷ []) (ancestry len u v)
   unfolding ancestry opened afterCount related compared Ends some?

@@ -2,7 +2,7 @@
 -- This is the only transcription of the steps. Assumes nothing.
 use mathlib.Core.Bool.{Bool, true, false, _&&_}
 use mathlib.Core.Option.{Option}
-use Prim.Native.Nat.{ℕ, suc, _+_, _-_, _*_, _/_, _%_, _^_}
+use Prim.Native.Nat.{ℕ, suc, _+_, _-_, _*_, _/_, _%_, _^_, min}
 use lib.Dec.{leb, ltb}
 use Rattle.base.specs.Lists.{first, below}
 use Rattle.base.specs.Numbers.{Outcome, accepted, unknown, tooDeep, notAbove}
@@ -115,9 +115,12 @@ level len v d = opened len (fromEntry false v d)
 unfoldable pub climbing : ℕ → ℕ → ℕ → Reading
 climbing len v k = opened len (fromEntry true v k)
 
--- the rating lookup of v at rating level d: as the level lookup
+-- the rating lookup of v at rating level d (2026-04): "the lookup at the smaller depth", of d and v's own, which is read once
+unfoldable pub fromRated : ℕ → ℕ → ℕ → Reading
+fromRated v d n = ifLe n v (done (unknown v)) (read (depthCell n v) (λ depth. afterDepth n false v (min d depth) depth))
+
 unfoldable pub rating : ℕ → ℕ → ℕ → Reading
-rating len v d = level len v d
+rating len v d = opened len (fromRated v d)
 
 -- the reads of ancestry: PRE and SIZE of u, PRE of v. Then `above` if PRE u ≤ PRE v < PRE u + SIZE u, else `apart`
 unfoldable pub compared : Reading → Reading → ℕ → ℕ → ℕ → Reading

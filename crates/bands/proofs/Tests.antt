@@ -1,5 +1,6 @@
 -- What the tests of bands say, as facts. Assumes nothing.
 use mathlib.Core.Path.{_≡_, refl, sym}
+use mathlib.Core.Logic.{_↔_}
 use mathlib.Core.List.{List}
 use mathlib.Core.Bool.{Bool, true, false, _&&_}
 use mathlib.Core.Option.{Option, none, some, Option·map, Option·some-ne-none}
@@ -9,7 +10,7 @@ use lib.Dec.{eqb, leb, ltb}
 use borrow.Author.Tests.{eq-eqb, eqb-true, le-leb, leb-true, lt-ltb, ltb-true}
 use Rattle.base.specs.Amounts.{mostSum, mostRate}
 use Rattle.base.proofs.Lists.{clash}
-use Rattle.bands.specs.Bands.{Band, isClass, isBand, holds, isSome}
+use Rattle.bands.specs.Bands.{Band, isCovered, isClass, isBand, holds, isSome}
 
 pub and-first : (p q : Bool) → (p && q) ≡ true → p ≡ true
 and-first true q e = refl
@@ -27,15 +28,19 @@ pub unmapped {ℓ κ} : {A : Type ℓ} {B : Type κ} (f : A → B) (o : Option A
 unmapped f none e = refl
 unmapped f (some x) e = absurd (Option·some-ne-none (f x) e)
 
--- a class is an entry of its depth
-module _ (depths : List ℕ) (d c : ℕ) where
-  pub class-says : isClass depths d c ≡ true → (c < length depths) × (getD depths c 0 ≡ d)
-  unfolding isClass
-  class-says e = (ltb-true _ _ (and-first (ltb c (length depths)) _ e), eqb-true _ _ (and-second (ltb c (length depths)) _ e))
+-- a class is an entry of depth d or less
+pub covered-depth : (d depth : ℕ) → (isCovered d depth ≡ true) ↔ (depth ≤ d)
+unfolding isCovered
+covered-depth d depth = (leb-true depth d, le-leb depth d)
 
-  pub says-class : c < length depths → getD depths c 0 ≡ d → isClass depths d c ≡ true
+module _ (depths : List ℕ) (d c : ℕ) where
+  pub class-says : isClass depths d c ≡ true → (c < length depths) × (isCovered d (getD depths c 0) ≡ true)
   unfolding isClass
-  says-class h e = rw (lt-ltb c (length depths) h, eq-eqb (getD depths c 0) d e)
+  class-says e = (ltb-true _ _ (and-first (ltb c (length depths)) _ e), and-second (ltb c (length depths)) _ e)
+
+  pub class-is : c < length depths → isClass depths d c ≡ isCovered d (getD depths c 0)
+  unfolding isClass
+  class-is h = rw (lt-ltb c (length depths) h)
 
 -- a band that a line may state
 pub record Sound (depths : List ℕ) (d : ℕ) (b : Band) : Type 0 where

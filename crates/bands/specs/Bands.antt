@@ -1,4 +1,4 @@
--- Sheets with bands (2026-02): which amounts of a class the bands of a sheet hold, and the lowest fault. Assumes nothing.
+-- Sheets with bands (2026-02, 2026-04): which amounts of a class the bands of a sheet hold, and the lowest fault. Assumes nothing.
 use mathlib.Core.Path.{_≡_}
 use mathlib.Core.List.{List}
 use mathlib.Core.Bool.{Bool, true, false, not, cond, _&&_}
@@ -17,11 +17,15 @@ pub record Band : Type 0 where
   pub to : ℕ
   pub rate : ℕ
 
--- "each class of depth d": whether a sheet of rating level d is to cover entry c, by the depths of all entries
-unfoldable pub isClass : List ℕ → ℕ → ℕ → Bool
-isClass depths d c = ltb c (length depths) && eqb (getD depths c 0) d
+-- "each entry of depth d or less as a class of its own": whether a sheet of rating level d is to cover an entry of that depth
+unfoldable pub isCovered : ℕ → ℕ → Bool
+isCovered d depth = leb depth d
 
--- a band that a line may state: "unknown class or wrong depth, from above to, to or rate over its limit" are bad
+-- and whether it is to cover entry c, by the depths of all entries
+unfoldable pub isClass : List ℕ → ℕ → ℕ → Bool
+isClass depths d c = ltb c (length depths) && isCovered d (getD depths c 0)
+
+-- a band that a line may state: "unknown class or wrong depth, from above to, to or rate over its limit" are bad, and "only a deeper class has the wrong depth"
 unfoldable pub isBand : List ℕ → ℕ → Band → Bool
 isBand depths d b = isClass depths d (b .class) && (leb (b .from) (b .to) && (leb (b .to) mostSum && leb (b .rate) mostRate))
 

@@ -1,10 +1,10 @@
 -- On a prepared table each question answers what it means: the climb from parent to parent. Assumes nothing.
-use mathlib.Core.Path.{_≡_, refl, sym, ap, _∙_}
+use mathlib.Core.Path.{_≡_, sym, ap, _∙_}
 use mathlib.Core.Logic.{_↔_}
 use mathlib.Core.List.{List}
 use mathlib.Core.Bool.{Bool, true, false, cond}
-use mathlib.Core.Option.{Option, none, some, Option·elim}
-use Prim.Native.Nat.{ℕ, suc, _+_, _-_, _*_, _≤_, _<_}
+use mathlib.Core.Option.{Option, none, Option·elim}
+use Prim.Native.Nat.{ℕ, suc, _+_, _-_, _≤_, _<_, min}
 use native.Mathlib.Omega.{arith}
 use native.Mathlib.Decide.{ℕ-discrete, decLe, decLt}
 use lib.ListN.{length}
@@ -12,20 +12,23 @@ use lib.Dec.{leb}
 use borrow.Author.Tests.{le-leb, lt-leb}
 use Rattle.base.specs.Numbers.{Outcome, accepted, unknown, tooDeep, notAbove}
 use Rattle.base.specs.Lists.{first, has}
-use Rattle.base.specs.Limits.{tableWords, depthCell, preCell, sizeCell}
+use Rattle.base.specs.Limits.{entriesOf, tableWords, depthCell, preCell, sizeCell}
 use Rattle.base.proofs.Filters.{times-has, has-not}
 use Rattle.tree.specs.Parents.{up, climb, depth, children}
 use Rattle.tree.specs.Forest.{size, position}
 use Rattle.tree.specs.Level.{Ancestor, levelAncestor}
 use Rattle.tree.specs.Questions.{known, classOf, ratingOf, climbOf, ancestryOf, branchOf}
 use Rattle.tree.proofs.Depths.{up-some, up-none, level-in, level-deep, level-defined}
-use Rattle.tree.proofs.Meanings.{rating-class}
+use Rattle.tree.proofs.Meanings.{class-unknown, rating-unknown, rating-of-smaller}
 use Rattle.tree.proofs.Intervals.{depth-less, interval}
 use Rattle.tree.proofs.Ancestry.{on-climb, towards, towards-none, strictly-deeper}
 use Rattle.table.specs.Preparing.{Prepared}
-use Rattle.answers.specs.Reading.{Reading, done, read, ifLe, ifLt, ifEq, run}
+use Rattle.answers.specs.Reading.{Reading, done, read, ifLe, ifLt, ifEq, wordAt, run}
+use Rattle.answers.specs.Answers.{answerTo, outcome}
+use Rattle.answers.specs.Promises.{depthWord}
 use Rattle.answers.specs.Steps.{afterCount, opened, ancestorAt, wanted, afterDepth, fromEntry, level, climbing, rating, compared, related, ancestry, inside, deeper, strictly, branch}
 use Rattle.answers.proofs.Runs.{run-done, run-read, run-le, run-not-le, run-lt, run-not-lt, run-eq, run-not-eq, run-then}
+use Rattle.answers.proofs.Ratings.{rating-smaller}
 use Rattle.climbs.proofs.TableWords.{many, few, tree, small, count-word, depth-word, pre-word, size-word}
 use Rattle.climbs.proofs.Levels.{ancestor-at-run}
 
@@ -76,9 +79,17 @@ module _ (ps t : List ℕ) (p : Prepared ps t) where
       (λ h b. level-deep ps (small ps t p) (tree ps t p) v d b)
       (λ h b. (b, sym (level-in ps (small ps t p) (tree ps t p) v d b)))
 
+  -- rating: the level lookup at the smaller of d and the entry's depth
+  pub depth-stated : (v : ℕ) → v < length ps → depthWord t v ≡ depth ps v
+  depth-stated v h = ap (λ word. wordAt t (depthCell (entriesOf word) v)) (count-word ps t p) ∙ depth-word ps t p v h
+
   pub rating-right : (v d : ℕ) → run t (rating (length t) v d) ≡ ratingOf ps v d
-  unfolding rating
-  rating-right v d = level-right v d ∙ sym (rating-class ps v d)
+  unfolding answerTo
+  rating-right v d = ap outcome (rating-smaller t (length t) v d) ∙ level-right v (min d (depthWord t v)) ∙ go (decLt v (length ps))
+    where
+      go : Dec (v < length ps) → classOf ps v (min d (depthWord t v)) ≡ ratingOf ps v d
+      go (yes h) = ap (λ x. classOf ps v (min d x)) (depth-stated v h) ∙ sym (rating-of-smaller ps (small ps t p) (tree ps t p) v d)
+      go (no h) = class-unknown ps (small ps t p) (tree ps t p) v _ (omega arith) ∙ sym (rating-unknown ps (small ps t p) (tree ps t p) v d (omega arith))
 
   -- climb: so many parents up
   pub climb-right : (v k : ℕ) → run t (climbing (length t) v k) ≡ climbOf ps v k

@@ -17,6 +17,7 @@ use base::Node;
 use base::Sum;
 use base::limits::space_words;
 use base::limits::table_words;
+use query::Lookup;
 use sheets::SHEET_WORDS;
 
 // W: the words of a table for n entries.
@@ -56,7 +57,7 @@ pub extern "C" fn tantsheko_prepare(
 pub extern "C" fn tantsheko_level(table: &[u32], v: u32, d: u32, answer: &mut [u32; ANSWER_WORDS])
     ensures { λ _. ⌜ now (answer .exit) ≡ answerWords (answerTo (now (table .entry)) (level (length (now (table .entry))) v d)) ⌝ }
 {
-    query::look_words(table, false, Node(v), d, answer);
+    query::look_words(table, Lookup::Level, Node(v), d, answer);
 }
 
 // The entry k above v.
@@ -64,10 +65,10 @@ pub extern "C" fn tantsheko_level(table: &[u32], v: u32, d: u32, answer: &mut [u
 pub extern "C" fn tantsheko_climb(table: &[u32], v: u32, k: u32, answer: &mut [u32; ANSWER_WORDS])
     ensures { λ _. ⌜ now (answer .exit) ≡ answerWords (answerTo (now (table .entry)) (climbing (length (now (table .entry))) v k)) ⌝ }
 {
-    query::look_words(table, true, Node(v), k, answer);
+    query::look_words(table, Lookup::Climb, Node(v), k, answer);
 }
 
-// The class of v at rating level d.
+// The class of v at rating level d, or v itself where it is less deep.
 #[no_mangle]
 pub extern "C" fn tantsheko_rating(table: &[u32], v: u32, d: u32, answer: &mut [u32; ANSWER_WORDS])
     ensures { λ _. ⌜ now (answer .exit) ≡ answerWords (answerTo (now (table .entry)) (rating (length (now (table .entry))) v d)) ⌝ }

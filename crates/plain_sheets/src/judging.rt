@@ -98,11 +98,11 @@ fn lowest(lines: &[u32], m: usize, class: usize) -> usize {
     best
 }
 
-// The fault of an entry, where it is of the level.
+// The fault of an entry, where it is not below the level.
 fn class_fault(lines: &[u32], m: usize, parents: &[u32], n: usize, d: usize, v: usize) -> Due
     ensures { λ r. ⌜ r .number ≤ 15 ⌝ }
 {
-    if climbs(parents, n, v) != d {
+    if d < climbs(parents, n, v) {
         return verdict(0, m, 0);
     }
     let x = lowest(lines, m, v);
@@ -153,7 +153,7 @@ pub fn look(sound: bool, parents: &[u32], n: usize, d: usize, v: usize) -> Due
     }
     let depth = climbs(parents, n, v);
     if depth < d {
-        return verdict(8, v, 0);
+        return verdict(0, v, 0);
     }
     verdict(0, above(parents, v, less(depth, d)), 0)
 }

@@ -58,14 +58,14 @@ fn close(mut r: Reader, lines: &mut [u32]) -> Reader {
     r
 }
 
-// Whether a line's fields are a band of a class of depth d.
+// Whether a line's fields are a band of a class of depth d or less.
 fn legal(lines: &[u32], line: usize, parents: &[u32], n: usize, d: usize) -> bool {
     let class = part(lines, line, CLASS);
     let to = part(lines, line, TO);
     if n <= class {
         return false;
     }
-    if climbs(parents, n, class) != d {
+    if d < climbs(parents, n, class) {
         return false;
     }
     if to < part(lines, line, FROM) {

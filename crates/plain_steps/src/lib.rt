@@ -11,5 +11,6 @@ pub use relation::ancestry;
 pub use relation::branch;
 pub use steps::climb;
 pub use steps::level;
+pub use steps::rating;
 pub use strings::shape_strings;
 pub use walking::Walk;

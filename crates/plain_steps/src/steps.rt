@@ -183,6 +183,17 @@ pub fn level(table: &[u32], strings: &[u32], v: u32, d: u32) -> Walk
     look(table, strings, wide(v), wide(d), Walk::new())
 }
 
+// The rating lookup: the level lookup at the rating level, or at the entry's own depth where that is less.
+pub fn rating(table: &[u32], strings: &[u32], v: u32, d: u32) -> Walk
+    ensures { λ r. ⌜ r .count ≤ 10 ⌝ }
+{
+    let depth = get(table, 4 + wide(v));
+    if depth < wide(d) {
+        return look(table, strings, wide(v), depth, Walk::new());
+    }
+    look(table, strings, wide(v), wide(d), Walk::new())
+}
+
 // Climbing k up from v: the level lookup at its depth less k, or, where k is more, at a depth that it does not have.
 pub fn climb(table: &[u32], strings: &[u32], v: u32, k: u32) -> Walk
     ensures { λ r. ⌜ r .count ≤ 10 ⌝ }

@@ -85,7 +85,7 @@ fn ask(
     let given = premiums::premium(table, rates, Node(v), d, Sum(sum));
     let answer = given.answer;
     let money = given.cents;
-    if !walked(answer, plain_steps::level(table, strings, v, d), looked) {
+    if !walked(answer, plain_steps::rating(table, strings, v, d), looked) {
         return Tally::wrong();
     }
     let want = wanted(rates, looked, size);

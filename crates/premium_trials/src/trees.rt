@@ -52,10 +52,10 @@ fn sums(
     tally
 }
 
-// What the rating lookup of v at level d is to answer, where v is so deep.
+// What the rating lookup of v at level d is to answer, where v is so deep: v itself where that is less.
 fn looked(parents: &[u32], v: usize, depth: usize, d: usize) -> Looked {
     if depth < d {
-        return Looked { number: 8, word: v };
+        return Looked { number: 0, word: v };
     }
     Looked {
         number: 0,

@@ -19,17 +19,17 @@ module _ (t rates : List ℕ) (v d : ℕ) (sum : ℤ) (a : Answer) (r : Quote) w
   abbrev pub Promised : Type 0
   Promised =
       (r ≡ quoteTo t rates v d sum)
-      × (Gives (0 ∷ 7 ∷ 8 ∷ 9 ∷ 11 ∷ 12 ∷ []) (r .answer)
+      × (Gives (0 ∷ 7 ∷ 9 ∷ 11 ∷ 12 ∷ []) (r .answer)
       × (Few 10 (r .answer)
       × (LocalQuote (λ u. quoteTo u rates v d sum) t r
       × RightQuote (λ ps. priceOf rates sum (ratingOf ps v d)) t r)))
 
   pub promised : Rated t v d a → r ≡ quoteOf rates sum a → Promised
   unfolding quoteTo some?
-  promised (answers, (numbers, (few, (local, right)))) q = (
+  promised (answers, (numbers, (few, (local, (right, rest))))) q = (
     q ∙ ap (quoteOf rates sum) answers,
     (
-      rw q (price-numbers rates sum (outcome a) (0 ∷ 7 ∷ 8 ∷ 9 ∷ []) refl numbers),
+      rw q (price-numbers rates sum (outcome a) (0 ∷ 7 ∷ 9 ∷ []) refl numbers),
       (
         rw q few,
         (

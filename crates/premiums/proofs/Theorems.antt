@@ -13,8 +13,8 @@ use Rattle.base.specs.Numbers.{Outcome, accepted}
 use Rattle.base.specs.Amounts.{mostRate, mostSum}
 use Rattle.base.proofs.Counts.{times, times-append}
 use Rattle.base.proofs.Filters.{has-times, times-has}
-use Rattle.tree.specs.Level.{LevelAncestor}
-use Rattle.tree.proofs.Meanings.{rating-class, class-ancestor}
+use Rattle.tree.specs.Level.{RatingClass}
+use Rattle.tree.proofs.Meanings.{rating-class}
 use Rattle.table.specs.Preparing.{Prepared}
 use Rattle.answers.specs.Answers.{answerTo}
 use Rattle.climbs.proofs.TableWords.{small, tree}
@@ -86,10 +86,10 @@ module _ (rates : List ℕ) (sum : ℤ) (o : Outcome) where
     pub price-numbers : has (ns ++ (11 ∷ 12 ∷ [])) (priceOf rates sum o .number) ≡ true
     price-numbers = case-numbers (priceOf rates sum o) cases
 
--- on a table prepared from a list: of every entry with a class u by climbing whose rate is legal, and of every legal sum, the premium is given, at u's rate
-pub prepared-premium : (ps t rates : List ℕ) (sum : ℤ) (v d u : ℕ) → Prepared ps t → LevelAncestor ps v d u → u < length rates → getD rates u 0 ≤ mostRate → natAbs sum ≤ mostSum
+-- on a table prepared from a list: where the rate of the class u of an entry is legal, every legal sum has its premium, at u's rate
+pub prepared-premium : (ps t rates : List ℕ) (sum : ℤ) (v d u : ℕ) → Prepared ps t → RatingClass ps v d u → u < length rates → getD rates u 0 ≤ mostRate → natAbs sum ≤ mostSum
     → price (quoteTo t rates v d sum) ≡ costing (accepted u) (premium sum (getD rates u 0))
 unfolding quoteTo answerTo
-prepared-premium ps t rates sum v d u p l h k s =
-    ap (priceOf rates sum) (rating-right ps t p v d ∙ rating-class ps v d ∙ class-ancestor ps (small ps t p) (tree ps t p) v d u l)
+prepared-premium ps t rates sum v d u p c h k s =
+    ap (priceOf rates sum) (rating-right ps t p v d ∙ rating-class ps (small ps t p) (tree ps t p) v d u c)
     ∙ paid-is rates sum (accepted u) (record { found = refl; listed = h; limit = k }) s

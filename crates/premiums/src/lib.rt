@@ -33,7 +33,7 @@ pub struct Quote {
 // The premium of a sum insured for entry v at rating level d, by a list of rates, one for each entry.
 pub fn premium(table: &[u32], rates: &[u32], v: Node, d: u32, sum: Sum) -> Quote
     ensures answer { λ r. ⌜ r ≡ quoteTo (now (table .entry)) (now (rates .entry)) (v .0) d (sum .0) ⌝ }
-    ensures numbers { λ r. ⌜ Gives (0 ∷ 7 ∷ 8 ∷ 9 ∷ 11 ∷ 12 ∷ []) (r .answer) ⌝ }
+    ensures numbers { λ r. ⌜ Gives (0 ∷ 7 ∷ 9 ∷ 11 ∷ 12 ∷ []) (r .answer) ⌝ }
     ensures few { λ r. ⌜ Few 10 (r .answer) ⌝ }
     ensures local { λ r. ⌜ Local (λ t. quoteTo t (now (rates .entry)) (v .0) d (sum .0)) (now (table .entry)) r ⌝ }
     ensures right { λ r. ⌜ Right (λ ps. priceOf (now (rates .entry)) (sum .0) (ratingOf ps (v .0) d)) (now (table .entry)) r ⌝ }

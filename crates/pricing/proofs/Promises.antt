@@ -95,7 +95,7 @@ module _ (t : List ℕ) (v d : ℕ) (sum : ℤ) (a : Answer) where
         }
 
     pub promised : (quote ≡ priceTo t text v d sum)
-        × (Gives (0 ∷ 7 ∷ 8 ∷ 9 ∷ 12 ∷ 13 ∷ 14 ∷ 15 ∷ []) (quote .answer)
+        × (Gives (0 ∷ 7 ∷ 9 ∷ 12 ∷ 13 ∷ 14 ∷ 15 ∷ []) (quote .answer)
         × (Few 10 (quote .answer)
         × (Local text v d sum t quote
         × Right (λ ps. priceOn ps text v d sum) t quote)))
@@ -126,7 +126,7 @@ module _ (sheet t : List ℕ) (v : ℕ) (sum : ℤ) (a : Answer) (asked : Rated 
       go (no n) = by .refusal n ∙ sym (price-unfound (checkTo t d text) (bandsOn t d text) sum (outcome a) n)
 
   abbrev among : List ℕ
-  among = 0 ∷ 7 ∷ 8 ∷ 9 ∷ 12 ∷ 14 ∷ []
+  among = 0 ∷ 7 ∷ 9 ∷ 12 ∷ 14 ∷ []
 
   -- an offer's numbers, and the lookup's
   offered : Offer sum (a .word) p → Dec (natAbs sum ≤ mostSum) → has among (p .number) ≡ true
@@ -144,7 +144,7 @@ module _ (sheet t : List ℕ) (v : ℕ) (sum : ℤ) (a : Answer) (asked : Rated 
     where
       go : Dec (a .number ≡ 0) → has among (p .number) ≡ true
       go (yes e) = offered (by .offer e) (decLe (natAbs sum) mostSum)
-      go (no n) = rw (by .refusal n) (times-has among (a .number) (omega (arith, has-times (0 ∷ 7 ∷ 8 ∷ 9 ∷ []) (a .number) (asked .1 .0))))
+      go (no n) = rw (by .refusal n) (times-has among (a .number) (omega (arith, has-times (0 ∷ 7 ∷ 9 ∷ []) (a .number) (asked .1 .0))))
 
   found : looked t v d .number ≡ 0 → a .number ≡ 0
   found e = ap (λ x. x .number) (asked .0) ∙ e

@@ -11,26 +11,22 @@ use lib.IntN.{ℤ, natAbs}
 use Rattle.base.specs.Lists.{has, some?}
 use Rattle.base.specs.Numbers.{Outcome, accepted}
 use Rattle.base.specs.Amounts.{mostSum}
-use Rattle.base.proofs.Lists.{below-at, each-length}
 use Rattle.base.proofs.Counts.{times}
 use Rattle.base.proofs.Filters.{has-times, times-has}
-use Rattle.tree.specs.Parents.{depth}
-use Rattle.tree.specs.Level.{LevelAncestor}
+use Rattle.tree.specs.Level.{RatingClass}
 use Rattle.tree.specs.Questions.{ratingOf}
-use Rattle.tree.proofs.Climbs.{up-in}
-use Rattle.tree.proofs.Meanings.{rating-class, class-ancestor}
+use Rattle.tree.proofs.Meanings.{rating-class, rating-depth, has-class}
 use Rattle.table.specs.Preparing.{Prepared}
 use Rattle.answers.specs.Answers.{answerTo}
 use Rattle.climbs.proofs.TableWords.{small, tree}
 use Rattle.climbs.proofs.Questions.{rating-right}
 use Rattle.money.specs.Premium.{premium}
-use Rattle.bands.specs.Bands.{Band, isClass, holds, covers, bandOf}
-use Rattle.bands.proofs.Tests.{says-class}
+use Rattle.bands.specs.Bands.{Band, holds, covers, bandOf}
 use Rattle.bands.proofs.Theorems.{accepted-band}
 use Rattle.sheets.specs.Texts.{sheetOf, bandsIn}
 use Rattle.sheets.specs.Verdicts.{verdict, depthsOf, checkTo, bandsOn, Good}
 use Rattle.sheets.specs.declared.Verdict.{Verdict}
-use Rattle.sheets.proofs.Theorems.{good-verdict, accepted-good, check-right, depths-right}
+use Rattle.sheets.proofs.Theorems.{good-verdict, accepted-good, check-right, depths-right, covered-iff}
 use Rattle.pricing.specs.Quotes.{costing, classPrice, sheetPrice, price, looked, priceTo, priceOn}
 use Rattle.pricing.proofs.SheetPrices.{class-outside, class-unheld, class-held, price-unfound, price-refused, price-found}
 
@@ -42,43 +38,39 @@ price-right ps t text v d sum p =
     ∙ ap (λ w. sheetPrice w (bandsOn t d text) sum (ratingOf ps v d)) (check-right ps t p d text)
     ∙ ap (λ l. sheetPrice (verdict (depthsOf ps) d text) (bandsIn (sheetOf l d text)) sum (ratingOf ps v d)) (depths-right ps t p)
 
--- "Each accepted sheet then prices every legal sum of an entry with a class at d, at the rate of the band that holds it": of a sheet that the check accepts on a table prepared
--- from a list, for an entry with class u at d by climbing, number 0 at the rate of the one band of u that holds the sum's size
-pub record Priced (ps t text : List ℕ) (v d u : ℕ) (sum : ℤ) : Type 0 where
+-- "Each accepted sheet then prices every legal sum .. at the rate of the band that holds it": a sheet that the check accepts on a table prepared from a list gives every entry
+-- and every legal sum number 0, the entry's class, and the cents at the rate of the one band of that class that holds the sum's size
+pub record Priced (ps t text : List ℕ) (v d : ℕ) (sum : ℤ) : Type 0 where
+  pub class : ℕ
+  pub rated : RatingClass ps v d class
   pub sheet : Good (depthsOf ps) d text
   pub band : Band
-  pub held : holds u (natAbs sum) band ≡ true
-  pub only : covers (sheet .bands) u (natAbs sum) ≡ 1
-  pub found : bandOf (sheet .bands) u (natAbs sum) ≡ some band
-  pub priced : price (priceTo t text v d sum) ≡ costing (accepted u) (premium sum (band .rate))
+  pub held : holds class (natAbs sum) band ≡ true
+  pub only : covers (sheet .bands) class (natAbs sum) ≡ 1
+  pub found : bandOf (sheet .bands) class (natAbs sum) ≡ some band
+  pub priced : price (priceTo t text v d sum) ≡ costing (accepted class) (premium sum (band .rate))
 
-module _ (ps t text : List ℕ) (v d u : ℕ) (sum : ℤ) (p : Prepared ps t) (level : LevelAncestor ps v d u) (ok : checkTo t d text .number ≡ 0) (legal : natAbs sum ≤ mostSum) where
+module _ (ps t text : List ℕ) (v d : ℕ) (sum : ℤ) (p : Prepared ps t) (known : v < length ps) (ok : checkTo t d text .number ≡ 0) (legal : natAbs sum ≤ mostSum) where
   good : Good (depthsOf ps) d text
   good = accepted-good (depthsOf ps) d text .0 (sym (ap (λ w. w .number) (check-right ps t p d text)) ∙ ok)
 
-  rated : ratingOf ps v d ≡ accepted u
-  rated = rating-class ps v d ∙ class-ancestor ps (small ps t p) (tree ps t p) v d u level
-
-  entry : u < length ps
-  entry = up-in ps (level .ancestor .climbs) v u (level .ancestor .reached)
-
-  class : isClass (depthsOf ps) d u ≡ true
-  unfolding depthsOf
-  class = says-class (depthsOf ps) d u (omega (arith, entry, each-length (length ps) 0 (depth ps))) (below-at (length ps) (depth ps) 0 u entry ∙ level .depth-is)
-
-  pub accepted-prices : Priced ps t text v d u sum
+  pub accepted-prices : Priced ps t text v d sum
   unfolding priceOn
   accepted-prices =
-      let (b, e, h) = accepted-band (depthsOf ps) d (good .bands) (good .once) u class (natAbs sum) legal in
+      let (u, c) = has-class ps (small ps t p) (tree ps t p) v d known in
+      let covered = covered-iff ps d u .1 (rating-depth ps (small ps t p) (tree ps t p) v d u c) in
+      let (b, e, h) = accepted-band (depthsOf ps) d (good .bands) (good .once) u covered (natAbs sum) legal in
       record {
+        class = u;
+        rated = c;
         sheet = good;
         band = b;
         held = h;
-        only = good .once .once u class (natAbs sum) legal;
+        only = good .once .once u covered (natAbs sum) legal;
         found = e;
         priced =
             price-right ps t text v d sum p
-            ∙ ap (sheetPrice (verdict (depthsOf ps) d text) (bandsIn (sheetOf (depthsOf ps) d text)) sum) rated
+            ∙ ap (sheetPrice (verdict (depthsOf ps) d text) (bandsIn (sheetOf (depthsOf ps) d text)) sum) (rating-class ps (small ps t p) (tree ps t p) v d u c)
             ∙ price-found (verdict (depthsOf ps) d text) (bandsIn (sheetOf (depthsOf ps) d text)) sum (accepted u) refl (ap (λ w. w .number) (good-verdict (depthsOf ps) d text good))
             ∙ ap (λ s. classPrice (bandsIn s) sum u) (good .lines)
             ∙ class-held (good .bands) sum u legal b e;
@@ -96,14 +88,14 @@ class-numbers bs sum c = go (decLe (natAbs sum) mostSum) (bandOf bs c (natAbs su
 
 module _ (w : Verdict) (bs : List Band) (sum : ℤ) (o : Outcome) where
   abbrev numbers : List ℕ
-  numbers = 0 ∷ 7 ∷ 8 ∷ 9 ∷ 12 ∷ 13 ∷ 14 ∷ 15 ∷ []
+  numbers = 0 ∷ 7 ∷ 9 ∷ 12 ∷ 13 ∷ 14 ∷ 15 ∷ []
 
-  pub price-numbers : has (0 ∷ 7 ∷ 8 ∷ 9 ∷ []) (o .number) ≡ true → has (0 ∷ 9 ∷ 13 ∷ 14 ∷ 15 ∷ []) (w .number) ≡ true → has numbers (sheetPrice w bs sum o .number) ≡ true
+  pub price-numbers : has (0 ∷ 7 ∷ 9 ∷ []) (o .number) ≡ true → has (0 ∷ 9 ∷ 13 ∷ 14 ∷ 15 ∷ []) (w .number) ≡ true → has numbers (sheetPrice w bs sum o .number) ≡ true
   unfolding times
   price-numbers looked checked = go (ℕ-discrete (o .number) 0) (ℕ-discrete (w .number) 0)
     where
       go : Dec (o .number ≡ 0) → Dec (w .number ≡ 0) → has numbers (sheetPrice w bs sum o .number) ≡ true
-      go (no n) z = rw (price-unfound w bs sum o n) (times-has numbers (o .number) (omega (arith, has-times (0 ∷ 7 ∷ 8 ∷ 9 ∷ []) (o .number) looked)))
+      go (no n) z = rw (price-unfound w bs sum o n) (times-has numbers (o .number) (omega (arith, has-times (0 ∷ 7 ∷ 9 ∷ []) (o .number) looked)))
       go (yes e) (no z) = rw (price-refused w bs sum o e z) (times-has numbers (w .number) (omega (arith, has-times (0 ∷ 9 ∷ 13 ∷ 14 ∷ 15 ∷ []) (w .number) checked)))
       go (yes e) (yes z) =
           rw (price-found w bs sum o e z)

@@ -45,7 +45,7 @@ Right meaning t r = (ps : List ℕ) → Prepared ps t → price r ≡ meaning ps
 pub record Quotation (sheet : List ℕ) (v : ℕ) (sum : ℤ) (t : List ℕ) (r : BandQuote) : Type 0 where
   pub prices : (text : List ℕ) (d : ℕ) → checkTo t d text .number ≡ 0 → Checked sheet d (bandsOn t d text) → r ≡ priceTo t text v d sum
   pub banded : (d : ℕ) (bs : List Band) → Checked sheet d bs → looked t v d .number ≡ 0 → price r ≡ classPrice bs sum (looked t v d .word)
-  pub numbers : Gives (0 ∷ 7 ∷ 8 ∷ 9 ∷ 12 ∷ 14 ∷ []) (r .answer)
+  pub numbers : Gives (0 ∷ 7 ∷ 9 ∷ 12 ∷ 14 ∷ []) (r .answer)
   pub few : Few 10 (r .answer)
   pub cells : r .answer .cells ≡ looked t v (levelIn sheet) .cells
   pub refusal : (looked t v (levelIn sheet) .number ≡ 0 → ⊥) → r ≡ quoted (refusing (naming (outcome (looked t v (levelIn sheet))) 0)) (looked t v (levelIn sheet) .cells)

@@ -33,7 +33,7 @@ refusing v = record { number = v .number; word = v .word; amount = v .amount; ce
 unfoldable pub sheetPremium : List Band → ℕ → ℤ → Option ℤ
 sheetPremium bs class sum = Option·map (λ b. premium sum (b .rate)) (bandOf bs class (natAbs sum))
 
--- the price of a sum in a class: 12 outside its range; 14 with class and size where no band holds the size, as in an accepted sheet no class of its level lacks one
+-- the price of a sum in a class: 12 outside its range; 14 with class and size where no band holds the size; in an accepted sheet each class has a band for every legal size
 unfoldable pub classPrice : List Band → ℤ → ℕ → SheetPrice
 classPrice bs sum class =
     cond (legalSum sum)

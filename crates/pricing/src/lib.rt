@@ -38,7 +38,7 @@ pub struct Money {
 // The premium of a sum insured for entry v at rating level d, by the text of a sheet.
 pub fn price(table: &[u32], text: &[u8], v: Node, d: u32, sum: Sum) -> BandQuote
     ensures answer { λ r. ⌜ r ≡ priceTo (now (table .entry)) (now (text .entry)) (v .0) d (sum .0) ⌝ }
-    ensures numbers { λ r. ⌜ Gives (0 ∷ 7 ∷ 8 ∷ 9 ∷ 12 ∷ 13 ∷ 14 ∷ 15 ∷ []) (r .answer) ⌝ }
+    ensures numbers { λ r. ⌜ Gives (0 ∷ 7 ∷ 9 ∷ 12 ∷ 13 ∷ 14 ∷ 15 ∷ []) (r .answer) ⌝ }
     ensures few { λ r. ⌜ Few 10 (r .answer) ⌝ }
     ensures local { λ r. ⌜ Local (now (text .entry)) (v .0) d (sum .0) (now (table .entry)) r ⌝ }
     ensures right { λ r. ⌜ Right (λ ps. priceOn ps (now (text .entry)) (v .0) d (sum .0)) (now (table .entry)) r ⌝ }

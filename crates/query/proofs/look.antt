@@ -1,2 +1,3 @@
 -- Laws of the module `look`.
 pub mod Counts
+pub mod Lookups

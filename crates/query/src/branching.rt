@@ -8,6 +8,7 @@ ghost use Rattle.answers.specs.Answers.{listed, answerFrom};
 ghost use Rattle.answers.specs.Steps.{branch, strictly, deeper};
 ghost use Rattle.query.specs.Parts.{Held};
 use crate::joining::with_ten;
+use crate::look::Lookup;
 use crate::look::look_words;
 use crate::reading::broken;
 use crate::reading::read;
@@ -69,7 +70,7 @@ fn deeper(table: &[u32], n: u32, v: Node, depth: u32, cells: Cells) -> Answer
         return broken(cells);
     }
     let mut words: [u32; ANSWER_WORDS] = [0; ANSWER_WORDS];
-    look_words(table, false, v, depth + 1, &mut words);
+    look_words(table, Lookup::Level, v, depth + 1, &mut words);
     let inner = Answer::of_words(words);
     let more = inner.cells;
     let all = with_ten(cells, more);

@@ -8,6 +8,7 @@ mod power;
 mod reading;
 mod relate;
 
+pub use look::Lookup;
 pub use look::look_words;
 ghost use mathlib.Core.Path.{_≡_};
 ghost use mathlib.Core.List.{[], _∷_};
@@ -16,7 +17,7 @@ ghost use Rattle.base.specs.Limits.{Sized};
 ghost use Rattle.base.specs.Numbers.{Says};
 ghost use Rattle.tree.specs.Questions.{classOf, ratingOf, climbOf, ancestryOf, branchOf};
 ghost use Rattle.answers.specs.Answers.{answerTo, answerWords};
-ghost use Rattle.answers.specs.Promises.{Answers, Gives, Few, Local, Right};
+ghost use Rattle.answers.specs.Promises.{Answers, Gives, Few, Local, Right, RatesKnown, Smaller};
 ghost use Rattle.answers.specs.Steps.{level, climbing, rating, ancestry, branch};
 ghost use Rattle.query.specs.StepOne.{stepOne};
 use answers::ANSWER_WORDS;
@@ -34,7 +35,7 @@ pub fn level(table: &[u32], v: Node, d: u32) -> Answer
     ensures local { λ r. ⌜ Local (λ len. level len (v .0) d) (now (table .entry)) r ⌝ }
     ensures right { λ r. ⌜ Right (λ ps. classOf ps (v .0) d) (now (table .entry)) r ⌝ }
 {
-    look::look(table, false, v, d)
+    look::look(table, Lookup::Level, v, d)
 }
 
 // The entry k climbs above v.
@@ -45,25 +46,27 @@ pub fn climb(table: &[u32], v: Node, k: u32) -> Answer
     ensures local { λ r. ⌜ Local (λ len. climbing len (v .0) k) (now (table .entry)) r ⌝ }
     ensures right { λ r. ⌜ Right (λ ps. climbOf ps (v .0) k) (now (table .entry)) r ⌝ }
 {
-    look::look(table, true, v, k)
+    look::look(table, Lookup::Climb, v, k)
 }
 
-// The rating lookup: the class of v at rating level d.
+// The rating lookup: the class of v at depth d, or v itself where it is less deep.
 pub fn rating(table: &[u32], v: Node, d: u32) -> Answer
     ensures answer { λ r. ⌜ Answers (λ len. rating len (v .0) d) (now (table .entry)) r ⌝ }
-    ensures numbers { λ r. ⌜ Gives (0 ∷ 7 ∷ 8 ∷ 9 ∷ []) r ⌝ }
+    ensures numbers { λ r. ⌜ Gives (0 ∷ 7 ∷ 9 ∷ []) r ⌝ }
     ensures few { λ r. ⌜ Few 10 r ⌝ }
     ensures local { λ r. ⌜ Local (λ len. rating len (v .0) d) (now (table .entry)) r ⌝ }
     ensures right { λ r. ⌜ Right (λ ps. ratingOf ps (v .0) d) (now (table .entry)) r ⌝ }
+    ensures known { λ r. ⌜ RatesKnown (v .0) d (now (table .entry)) r ⌝ }
+    ensures smaller { λ r. ⌜ Smaller (v .0) d (now (table .entry)) r ⌝ }
 {
-    level(table, v, d)
+    look::look(table, Lookup::Rating, v, d)
 }
 
 // As `rating`, in words of the caller's.
 pub fn rating_words(table: &[u32], v: Node, d: u32, words: &mut [u32; ANSWER_WORDS])
     ensures { λ _. ⌜ now (words .exit) ≡ answerWords (answerTo (now (table .entry)) (rating (length (now (table .entry))) (v .0) d)) ⌝ }
 {
-    look_words(table, false, v, d, words);
+    look_words(table, Lookup::Rating, v, d, words);
 }
 
 // Whether u is at or above v: the result is 1 or 0.

@@ -1,12 +1,13 @@
 // Steps 1 and 2: the table's count, and the entry with its depth. Then the way on by its kind.
 ghost use mathlib.Core.Path.{_≡_};
 ghost use mathlib.Core.List.{[]};
-ghost use Prim.Native.Nat.{_<_, _≤_};
+ghost use Prim.Native.Nat.{ℕ, _<_, _≤_};
 ghost use lib.ListN.{length};
 ghost use Rattle.base.specs.Limits.{Sized};
 ghost use Rattle.answers.specs.Answers.{listed, answerFrom, answerTo, answerWords};
-ghost use Rattle.answers.specs.Steps.{opened, fromEntry, afterDepth, wanted, ancestorAt, afterKind};
+ghost use Rattle.answers.specs.Steps.{opened, afterDepth, wanted, ancestorAt, afterKind};
 ghost use Rattle.query.specs.Parts.{Held, countFrom, OpenedBy};
+ghost use Rattle.query.specs.Lookups.{fromLookup, countsClimbs, askedAt, pastDepth};
 use crate::group::from_group;
 use crate::joining::with_four;
 use crate::jump::from_jump;
@@ -28,18 +29,25 @@ use base::numbers::UNKNOWN;
 
 const HEADER: usize = HEADER_CELLS as usize;
 
+// The lookup of v at depth x, x climbs up from v, or at rating level x.
+pub enum Lookup {
+    Level,
+    Climb,
+    Rating,
+}
+
 // As `look`, in words of the caller's. The level lookup, the climb, the rating lookup and the premium of other languages, and branch, ask here alone, so that the
 // compiler sets the steps in place once and writes each word where it is wanted.
-pub fn look_words(table: &[u32], climbs: bool, v: Node, x: u32, words: &mut [u32; ANSWER_WORDS])
-    ensures { λ _. ⌜ now (words .exit) ≡ answerWords (answerTo (now (table .entry)) (opened (length (now (table .entry))) (fromEntry climbs (v .0) x))) ⌝ }
+pub fn look_words(table: &[u32], lookup: Lookup, v: Node, x: u32, words: &mut [u32; ANSWER_WORDS])
+    ensures { λ _. ⌜ now (words .exit) ≡ answerWords (answerTo (now (table .entry)) (opened (length (now (table .entry))) (fromLookup lookup (v .0) x))) ⌝ }
 {
-    let answer = look(table, climbs, v, x);
+    let answer = look(table, lookup, v, x);
     *words = answer.words();
 }
 
-// The level lookup of v at depth x, or x climbs up from v.
-pub(crate) fn look(table: &[u32], climbs: bool, v: Node, x: u32) -> Answer
-    ensures { λ r. ⌜ r ≡ answerFrom (now (table .entry)) (listed []) (opened (length (now (table .entry))) (fromEntry climbs (v .0) x)) ⌝ }
+// One of the three lookups.
+pub(crate) fn look(table: &[u32], lookup: Lookup, v: Node, x: u32) -> Answer
+    ensures { λ r. ⌜ r ≡ answerFrom (now (table .entry)) (listed []) (opened (length (now (table .entry))) (fromLookup lookup (v .0) x)) ⌝ }
 {
     let open = opened(table);
     let n = open.n;
@@ -47,7 +55,7 @@ pub(crate) fn look(table: &[u32], climbs: bool, v: Node, x: u32) -> Answer
     if n == 0 {
         return broken(cells);
     }
-    from_entry(table, n, climbs, v, x, cells)
+    from_entry(table, n, lookup, v, x, cells)
 }
 
 // What step 1 finds: the number of entries, 0 where the table is broken.
@@ -83,9 +91,9 @@ fn counted(words: usize, n: u32) -> u32
 }
 
 // Step 2: v.
-fn from_entry(table: &[u32], n: u32, climbs: bool, v: Node, x: u32, cells: Cells) -> Answer
+fn from_entry(table: &[u32], n: u32, lookup: Lookup, v: Node, x: u32, cells: Cells) -> Answer
     requires { ⌜ (Sized (now table) n) × (Held 1 cells) ⌝ }
-    ensures { λ r. ⌜ r ≡ answerFrom (now (table .entry)) cells (fromEntry climbs (v .0) x n) ⌝ }
+    ensures { λ r. ⌜ r ≡ answerFrom (now (table .entry)) cells (fromLookup lookup (v .0) x n) ⌝ }
 {
     if n <= v.0 {
         return Answer {
@@ -97,41 +105,56 @@ fn from_entry(table: &[u32], n: u32, climbs: bool, v: Node, x: u32, cells: Cells
     let got = read(table, HEADER_CELLS + v.0, cells);
     let depth = got.word;
     let more = got.cells;
-    after_depth(table, n, climbs, v, x, depth, more)
+    after_depth(table, n, lookup, v, x, depth, more)
 }
 
 // Step 2: the depth of v.
 fn after_depth(
     table: &[u32],
     n: u32,
-    climbs: bool,
+    lookup: Lookup,
     v: Node,
     x: u32,
     depth: u32,
     cells: Cells,
 ) -> Answer
     requires { ⌜ (Sized (now table) n) × (v .0 < n) × (Held 2 cells) ⌝ }
-    ensures { λ r. ⌜ r ≡ answerFrom (now (table .entry)) cells (afterDepth n climbs (v .0) x depth) ⌝ }
+    ensures { λ r. ⌜ r ≡ answerFrom (now (table .entry)) cells (afterDepth n (countsClimbs lookup) (v .0) (askedAt lookup x depth) depth) ⌝ }
 {
     if n <= depth {
         return broken(cells);
     }
     if depth < x {
         return Answer {
-            number: TOO_DEEP,
+            number: past_depth(lookup),
             word: v.0,
             cells,
         };
     }
-    ancestor_at(table, n, v, wanted(climbs, x, depth), depth, cells)
+    ancestor_at(table, n, v, wanted(lookup, x, depth), depth, cells)
 }
 
-// The depth wanted, where x is a depth or counts climbs.
-fn wanted(climbs: bool, x: u32, depth: u32) -> u32
-    requires { ⌜ x ≤ depth ⌝ }
-    ensures { λ r. ⌜ (r ≡ wanted climbs x depth) × (r ≤ depth) ⌝ }
+// The number where x is over the depth: too deep, but an entry is rated as itself.
+fn past_depth(lookup: Lookup) -> u32
+    ensures { λ r. ⌜ ((v : ℕ) → r ≡ pastDepth lookup v .number) ⌝ }
 {
-    if climbs { depth - x } else { x }
+    match lookup {
+        Lookup::Level => TOO_DEEP,
+        Lookup::Climb => TOO_DEEP,
+        Lookup::Rating => ACCEPTED,
+    }
+}
+
+// The depth wanted, where x is not over the depth.
+fn wanted(lookup: Lookup, x: u32, depth: u32) -> u32
+    requires { ⌜ x ≤ depth ⌝ }
+    ensures { λ r. ⌜ (r ≡ wanted (countsClimbs lookup) x depth) × (r ≤ depth) ⌝ }
+{
+    match lookup {
+        Lookup::Level => x,
+        Lookup::Climb => depth - x,
+        Lookup::Rating => x,
+    }
 }
 
 fn ancestor_at(table: &[u32], n: u32, v: Node, d: u32, depth: u32, cells: Cells) -> Answer

@@ -26,10 +26,11 @@ fn answer(table: &[u32], question: usize, a: u32, b: u32) -> Answer {
     }
 }
 
-// The same by the printed steps. The rating lookup is as the level lookup.
+// The same by the printed steps.
 fn walk(table: &[u32], strings: &[u32], question: usize, a: u32, b: u32) -> Walk {
     match question {
         CLIMB => plain_steps::climb(table, strings, a, b),
+        RATING => plain_steps::rating(table, strings, a, b),
         ANCESTRY => plain_steps::ancestry(table, a, b),
         BRANCH => plain_steps::branch(table, strings, a, b),
         _ => plain_steps::level(table, strings, a, b),

@@ -55,6 +55,8 @@ fn about(
     compare(table, strings, LEVEL, entry, 0)
         .plus(compare(table, strings, RATING, entry, 1))
         .plus(compare(table, strings, LEVEL, entry, other))
+        .plus(compare(table, strings, RATING, entry, other))
+        .plus(compare(table, strings, RATING, entry, narrow(TOP)))
         .plus(compare(table, strings, CLIMB, entry, 1))
         .plus(compare(table, strings, ANCESTRY, u, entry))
         .plus(compare(table, strings, BRANCH, u, entry))

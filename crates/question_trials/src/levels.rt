@@ -11,7 +11,12 @@ use samples::words::get;
 use samples::words::less;
 use samples::words::narrow;
 
-// The class of v at depth d, and the entry k climbs above v, where all are to give the same.
+// What a rating is to give where a level lookup has that number: v, its word, where it is too deep.
+fn rated(number: usize) -> usize {
+    if number == 8 { 0 } else { number }
+}
+
+// The class of v at depth d, its rating, and the entry k climbs above v, where all are to give the same word.
 fn three(
     table: &[u32],
     strings: &[u32],
@@ -24,12 +29,12 @@ fn three(
     let entry = narrow(v);
     let depth = narrow(d);
     let level = ask(table, strings, LEVEL, entry, depth, number, word);
-    let rating = ask(table, strings, RATING, entry, depth, number, word);
+    let rating = ask(table, strings, RATING, entry, depth, rated(number), word);
     let climb = ask(table, strings, CLIMB, entry, narrow(k), number, word);
     level.plus(rating).plus(climb)
 }
 
-// Questions of v that are refused: from a depth on, and at the highest.
+// Questions of v that a level lookup refuses: from a depth on, and at the highest.
 fn refused(table: &[u32], strings: &[u32], v: usize, from: usize, number: usize) -> Tally {
     let next = add(from, 1);
     three(table, strings, v, from, from, number, v)

@@ -27,7 +27,6 @@ use samples::seeds::next;
 use samples::seeds::pick;
 use samples::words::TOP;
 use samples::words::add;
-use samples::words::get;
 use samples::words::least;
 use samples::words::less;
 
@@ -115,19 +114,19 @@ fn two(lines: &mut [u32], m: usize, seed: usize) -> usize {
     shared(lines, left, other)
 }
 
-// An entry of another depth, or a number that is no entry where there is none.
-fn elsewhere(parents: &[u32], n: usize, d: usize, seed: usize) -> usize {
-    let v = pick(seed, n);
-    if climbs(parents, n, v) != d {
-        return v;
+// An entry below the level, or a number that is no entry where there is none. `pick` goes by the higher digits, so 1,024 more is the next entry.
+fn deeper(parents: &[u32], n: usize, d: usize, seed: usize) -> usize {
+    let mut s = seed;
+    let mut i = 0;
+    while i < n {
+        let v = pick(s, n);
+        if d < climbs(parents, n, v) {
+            return v;
+        }
+        s = add(s, 1024);
+        i += 1;
     }
-    if 0 < d {
-        return get(parents, v);
-    }
-    if v == 0 {
-        return 1;
-    }
-    0
+    n
 }
 
 // The field that makes a line bad, and its number then.
@@ -143,7 +142,7 @@ fn bad_field(kind: usize) -> usize {
 fn bad_number(kind: usize, to: usize, parents: &[u32], n: usize, d: usize, seed: usize) -> usize {
     match kind {
         UNKNOWN => over(less(n, 1), seed),
-        DEPTH => elsewhere(parents, n, d, seed),
+        DEPTH => deeper(parents, n, d, seed),
         ABOVE => add(to, 1),
         HIGH_TO => over(MOST_SUM, seed),
         _ => over(MOST_RATE, seed),

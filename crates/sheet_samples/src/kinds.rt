@@ -52,9 +52,9 @@ pub const CHANGED: usize = 24;
 
 pub const EMPTY: usize = 25;
 
-pub const NO_CLASSES: usize = 26;
+pub const EMPTY_BELOW: usize = 26;
 
-pub const LINES_FOR_NONE: usize = 27;
+pub const OTHER_LEVEL: usize = 27;
 
 pub const BROKEN: usize = 28;
 

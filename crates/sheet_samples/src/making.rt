@@ -1,4 +1,4 @@
-// Sheets without a fault, from a seed: the amounts of each class of a level are split into bands.
+// Sheets without a fault, from a seed: the amounts of each class, an entry that is not below the level, are split into bands.
 use crate::laying::lay;
 use samples::amounts::MOST_SUM;
 use samples::amounts::drawn;
@@ -92,7 +92,7 @@ fn bands_of(made: Made, total: usize, seed: usize) -> usize {
     add(1, pick(seed, 8))
 }
 
-// The lines of an entry, where it is of the level and not the one to leave out.
+// The lines of an entry, where it is a class and not the one to leave out.
 fn make_class(
     lines: &mut [u32],
     made: Made,
@@ -104,7 +104,7 @@ fn make_class(
     v: usize,
     seed: usize,
 ) -> Made {
-    if climbs(parents, n, v) != d {
+    if is_class(parents, n, d, v) == 0 {
         return made;
     }
     if v == skip {
@@ -118,19 +118,19 @@ fn make_class(
     }
 }
 
-// 1 for an entry of the level, else 0.
-fn of_level(parents: &[u32], n: usize, d: usize, v: usize) -> usize {
-    if climbs(parents, n, v) == d {
-        return 1;
+// 1 for a class, else 0.
+fn is_class(parents: &[u32], n: usize, d: usize, v: usize) -> usize {
+    if d < climbs(parents, n, v) {
+        return 0;
     }
-    0
+    1
 }
 
 fn classes(parents: &[u32], n: usize, d: usize) -> usize {
     let mut count = 0;
     let mut v = 0;
     while v < n {
-        count = add(count, of_level(parents, n, d, v));
+        count = add(count, is_class(parents, n, d, v));
         v += 1;
     }
     count

@@ -7,10 +7,10 @@ use crate::kinds::COMMA;
 use crate::kinds::CUT;
 use crate::kinds::ELEVEN_DIGITS;
 use crate::kinds::EMPTY;
+use crate::kinds::EMPTY_BELOW;
 use crate::kinds::FEED;
 use crate::kinds::FULL_BYTE;
 use crate::kinds::LEFT_OUT;
-use crate::kinds::NO_CLASSES;
 use crate::kinds::NO_DIGITS;
 use crate::kinds::NO_FEED;
 use crate::kinds::OVER_WORD;
@@ -95,7 +95,7 @@ fn change(kind: usize, text: &mut [u8], count: usize, seed: usize) -> usize
     if kind == EMPTY {
         return 0;
     }
-    if kind == NO_CLASSES {
+    if kind == EMPTY_BELOW {
         return 0;
     }
     match kind {

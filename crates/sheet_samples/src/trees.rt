@@ -2,9 +2,10 @@
 ghost use mathlib.Core.Path.{_≡_};
 ghost use Prim.Native.Nat.{_≤_};
 use crate::kinds::BROKEN;
+use crate::kinds::DEPTH;
+use crate::kinds::EMPTY_BELOW;
 use crate::kinds::FULL;
-use crate::kinds::LINES_FOR_NONE;
-use crate::kinds::NO_CLASSES;
+use crate::kinds::OTHER_LEVEL;
 use samples::cases::Case;
 use samples::cases::GROWN;
 use samples::cases::KINDS;
@@ -46,24 +47,37 @@ pub fn tree(kind: usize, seed: usize, parents: &mut [u32]) -> Case
     case_at(line, list_of(kind, line, next(next(seed))), parents)
 }
 
-// The level that the lines are for: that of an entry.
-pub fn level(parents: &[u32], n: usize, seed: usize) -> usize
+// The level that the lines are for: that of an entry, or the one above it where a deeper entry is wanted.
+pub fn level(kind: usize, parents: &[u32], n: usize, seed: usize) -> usize
     ensures { λ r. ⌜ r ≤ n ⌝ }
 {
-    climbs(parents, n, pick(next(add(seed, 1)), n))
+    let depth = climbs(parents, n, pick(next(add(seed, 1)), n));
+    if kind == DEPTH {
+        return less(depth, 1);
+    }
+    depth
 }
 
-// The level that is asked for: for some kinds one without entries.
+// The next level nearer the top, or the second where d is the first.
+fn nearer(d: usize) -> usize {
+    if d == 0 {
+        return 1;
+    }
+    less(d, 1)
+}
+
+// The level that is asked for: for some kinds one below every entry, or another than the lines are for.
 pub fn asked_level(kind: usize, n: usize, d: usize, seed: usize) -> usize
     ensures { λ r. ⌜ ((kind ≡ 26 → ⊥) → (kind ≡ 27 → ⊥) → r ≡ d) ⌝ }
 {
     match kind {
-        NO_CLASSES | LINES_FOR_NONE => {
-            if pick(seed, 4) == 0 {
-                return TOP;
-            }
-            add(n, pick(next(seed), 2))
-        }
+        EMPTY_BELOW => add(n, pick(next(seed), 2)),
+        OTHER_LEVEL => match pick(seed, 4) {
+            0 => TOP,
+            1 => add(d, 2),
+            2 => add(d, 1),
+            _ => nearer(d),
+        },
         _ => d,
     }
 }

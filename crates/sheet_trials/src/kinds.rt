@@ -3,13 +3,14 @@ use sheet_samples::kinds::BROKEN;
 use sheet_samples::kinds::CHANGED;
 use sheet_samples::kinds::CUT;
 use sheet_samples::kinds::EMPTY;
+use sheet_samples::kinds::EMPTY_BELOW;
 use sheet_samples::kinds::FULL;
 use sheet_samples::kinds::FULL_FAULT;
 use sheet_samples::kinds::GOOD;
 use sheet_samples::kinds::INSIDE;
 use sheet_samples::kinds::LEFT_OUT;
 use sheet_samples::kinds::MISSING;
-use sheet_samples::kinds::NO_CLASSES;
+use sheet_samples::kinds::OTHER_LEVEL;
 use sheet_samples::kinds::SHARED;
 use sheet_samples::kinds::TEN_DIGITS;
 use sheet_samples::kinds::THREE;
@@ -20,10 +21,10 @@ pub(crate) const ANY: usize = 1;
 
 pub(crate) fn number_of(kind: usize) -> usize {
     match kind {
-        GOOD | TEN_DIGITS | NO_CLASSES | FULL => 0,
-        MISSING | LEFT_OUT | EMPTY => 14,
+        GOOD | TEN_DIGITS | FULL => 0,
+        MISSING | LEFT_OUT | EMPTY | EMPTY_BELOW => 14,
         SHARED | THREE | INSIDE => 15,
-        TWO | CUT | CHANGED | FULL_FAULT => ANY,
+        TWO | CUT | CHANGED | OTHER_LEVEL | FULL_FAULT => ANY,
         BROKEN => 9,
         _ => 13,
     }

@@ -118,7 +118,7 @@ fn try_in(
     text: &mut [u8],
 ) -> Tally {
     let c = lay_tree(kind, seed, parents, table);
-    let d = level(parents, c.n, seed);
+    let d = level(kind, parents, c.n, seed);
     let count = make_text(kind, text, parents, c.n, d, seed);
     let t = break_table(kind, c.n, c.table, seed, table);
     let asked = asked_level(kind, c.n, d, seed);

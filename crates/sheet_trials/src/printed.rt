@@ -6,11 +6,11 @@ use samples::words::less;
 fn name(line: usize) {
     if line < 14 {
         let names =
-            b"good,ten digits,one amount missing,one amount shared,three bands on an amount,inside a longer band,a class left out,two faults,a bad line and a gap,unknown class,another depth,from above to,to over the limit,rate over the limit,";
+            b"good,ten digits,one amount missing,one amount shared,three bands on an amount,inside a longer band,a class left out,two faults,a bad line and a gap,unknown class,a deeper class,from above to,to over the limit,rate over the limit,";
         io::write_all(1, field(names, line));
     } else if line < 29 {
         let names =
-            b"eleven digits,no digits,over a word,carriage return,blank,sign,comma more,line feed more,no last line feed,cut anywhere,a byte changed,empty,no classes,lines for no classes,broken table,";
+            b"eleven digits,no digits,over a word,carriage return,blank,sign,comma more,line feed more,no last line feed,cut anywhere,a byte changed,empty,empty for a deep level,lines for another level,broken table,";
         io::write_all(1, field(names, less(line, 14)));
     } else {
         let names =

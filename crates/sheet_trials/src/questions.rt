@@ -60,7 +60,7 @@ fn both_prices(
     want: Due,
 ) -> Tally {
     let strings = shape_strings();
-    let walk = plain_steps::level(table, &strings, v, d);
+    let walk = plain_steps::rating(table, &strings, v, d);
     let added = price(table, text, v, d, false, size, walk, looked, want);
     let taken = price(table, text, v, d, true, size, walk, looked, want);
     added.plus(taken)
@@ -77,7 +77,7 @@ fn both_quotations(
     want: Due,
 ) -> Tally {
     let strings = shape_strings();
-    let walk = plain_steps::level(table, &strings, v, d);
+    let walk = plain_steps::rating(table, &strings, v, d);
     let added = quotation(table, sheet, v, false, size, walk, looked, want);
     let taken = quotation(table, sheet, v, true, size, walk, looked, want);
     added.plus(taken)

@@ -1,13 +1,13 @@
 -- What the parts of the check and of a quotation hand on. Assumes nothing.
 use mathlib.Core.Path.{_≡_}
 use mathlib.Core.List.{List}
-use mathlib.Core.Bool.{cond, _&&_}
+use mathlib.Core.Bool.{Bool, true, false, not, cond, _&&_}
 use mathlib.Core.Option.{Option, none, some}
 use Prim.Native.Nat.{ℕ, _≤_, _<_}
 use lib.ListN.{length, getD}
 use lib.Dec.{eqb, leb}
 use Rattle.base.specs.Amounts.{mostSum, mostRate}
-use Rattle.bands.specs.Bands.{Band, Fault, classFault}
+use Rattle.bands.specs.Bands.{Band, isCovered, isClass, Fault, classFault}
 use Rattle.sheets.specs.Texts.{Sheet, bandsIn}
 use Rattle.sheets.specs.Verdicts.{judged}
 use Rattle.sheets.specs.Checked.{Checked}
@@ -33,16 +33,20 @@ pub record Swept (words keys : List ℕ) (c number amount place : ℕ) : Type 0 
   pub places : place ≤ length keys
   pub passed : (i : ℕ) → i < place → keyClass (getD keys i 0) ≤ c
 
--- no entry from a place up to another is of depth d
+-- no entry from a place up to another is a class of level d
 pub record NoClass (depths : List ℕ) (d from place : ℕ) : Type 0 where
   pub behind : from ≤ place
   pub within : place ≤ length depths
-  pub others : (c : ℕ) → from ≤ c → c < place → getD depths c 0 ≡ d → ⊥
+  pub others : (c : ℕ) → from ≤ c → c < place → isClass depths d c ≡ false
+
+-- none of four entries, of these depths, is a class of level d
+abbrev pub noneOfFour : ℕ → ℕ → ℕ → ℕ → ℕ → Bool
+noneOfFour d a b c e = ((not (isCovered d a) && not (isCovered d b)) && not (isCovered d c)) && not (isCovered d e)
 
 -- the first entry from a place on that is, or the number of entries
 pub record NextClass (depths : List ℕ) (d from place : ℕ) : Type 0 where
   pub none-before : NoClass depths d from place
-  pub there : place < length depths → getD depths place 0 ≡ d
+  pub there : place < length depths → isClass depths d place ≡ true
 
 -- the verdict on a sheet was given: an accepted one stands in the new words, and a refusal left the old ones
 pub record Judged (depths : List ℕ) (d : ℕ) (s : Sheet) (r : Verdict) (old new : List ℕ) : Type 0 where

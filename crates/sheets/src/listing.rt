@@ -8,6 +8,7 @@ ghost use Rattle.bands.specs.Bands.{isBand};
 ghost use Rattle.sheets.specs.Texts.{sheetOf};
 ghost use Rattle.sheets.specs.Listings.{LineRead, ListingOf};
 use crate::keys::lay;
+use crate::sweeping::is_covered;
 use base::amounts::MOST_LINES;
 use base::amounts::MOST_RATE;
 use base::amounts::MOST_SUM;
@@ -90,7 +91,7 @@ fn is_band(depths: &[u32], d: u32, class: u32, from: u32, to: u32, rate: u32) ->
     if depths.len() <= at {
         return false;
     }
-    if depths[at] != d {
+    if !is_covered(d, depths[at]) {
         return false;
     }
     if to < from {

@@ -3,11 +3,10 @@ ghost use mathlib.Core.Path.{_≡_};
 ghost use Prim.Native.Nat.{ℕ, _≤_, _<_};
 ghost use lib.ListN.{length, getD};
 ghost use Rattle.base.specs.Limits.{mostEntries};
-ghost use Rattle.bands.specs.Bands.{sheetFault};
+ghost use Rattle.bands.specs.Bands.{isCovered, sheetFault};
 ghost use Rattle.sorting.specs.Orders.{Ascending};
 ghost use Rattle.sheets.specs.Keys.{keyClass, keyBands, Legal};
-ghost use mathlib.Core.Bool.{true};
-ghost use Rattle.sheets.specs.Parts.{Says, Ended, Swept, NextClass, NoClass};
+ghost use Rattle.sheets.specs.Parts.{Says, Ended, Swept, NextClass, NoClass, noneOfFour};
 use crate::Verdict;
 use crate::keys::class_of;
 use crate::keys::from_of;
@@ -59,7 +58,7 @@ fn next_class(depths: &[u32], d: u32, from: usize) -> usize
 {
     let mut i = skip_eights(depths, d, from);
     while i < depths.len() {
-        if depths[i] == d {
+        if is_covered(d, depths[i]) {
             return i;
         }
         i += 1;
@@ -67,15 +66,22 @@ fn next_class(depths: &[u32], d: u32, from: usize) -> usize
     i
 }
 
-// Entries are passed over by eights, as long as none of the eight is of depth d: most are of another, and eight are compared at once.
+// Whether a sheet of level d is to cover an entry of that depth.
+pub(crate) fn is_covered(d: u32, depth: u32) -> bool
+    ensures { λ r. ⌜ r ≡ isCovered d depth ⌝ }
+{
+    depth <= d
+}
+
+// Entries are passed over by eights, as long as none of the eight is a class: most are not, and eight are compared at once.
 fn skip_eights(depths: &[u32], d: u32, from: usize) -> usize
     requires { ⌜ from ≤ length (now depths) ⌝ }
     ensures { λ r. ⌜ NoClass (now (depths .entry)) d from r ⌝ }
 {
     let mut i = from;
     while 8 <= depths.len() - i {
-        let low = differ(d, depths[i], depths[i + 1], depths[i + 2], depths[i + 3]);
-        let high = differ(
+        let low = none_of_four(d, depths[i], depths[i + 1], depths[i + 2], depths[i + 3]);
+        let high = none_of_four(
             d,
             depths[i + 4],
             depths[i + 5],
@@ -90,11 +96,11 @@ fn skip_eights(depths: &[u32], d: u32, from: usize) -> usize
     i
 }
 
-// Whether four numbers differ from d, without a branch.
-fn differ(d: u32, a: u32, b: u32, c: u32, e: u32) -> bool
-    ensures { λ r. ⌜ (r ≡ true → (a ≡ d → ⊥) × (b ≡ d → ⊥) × (c ≡ d → ⊥) × (e ≡ d → ⊥)) ⌝ }
+// Whether none of four entries, of these depths, is a class of level d, without a branch.
+fn none_of_four(d: u32, a: u32, b: u32, c: u32, e: u32) -> bool
+    ensures { λ r. ⌜ r ≡ noneOfFour d a b c e ⌝ }
 {
-    (a != d) & (b != d) & (c != d) & (e != d)
+    !is_covered(d, a) & !is_covered(d, b) & !is_covered(d, c) & !is_covered(d, e)
 }
 
 // The fault of one class. Before `start` there are only bands of lower classes.

@@ -1,23 +1,22 @@
 -- Depth along a climb, and the level ancestor. Assumes nothing.
 use mathlib.Core.Path.{_≡_, refl, sym, ap, _∙_}
 use mathlib.Core.List.{List, [], _∷_}
-use mathlib.Core.Bool.{Bool, true, false, cond}
-use mathlib.Core.Option.{Option, none, some, Option·elim, Option·some-ne-none, Option·some-injective}
+use mathlib.Core.Bool.{true}
+use mathlib.Core.Option.{Option, none, some, Option·elim, Option·some-ne-none}
 use Prim.Native.Nat.{ℕ, zero, suc, _+_, _-_, _≤_, _<_}
 use native.Mathlib.Omega.{arith}
 use native.Mathlib.Nat.{not-suc-le-zero}
 use native.Mathlib.Decide.{decLe}
 use lib.ListN.{length, getD}
-use lib.Dec.{leb}
 use borrow.Author.Tests.{le-leb, lt-leb}
 use Rattle.base.specs.Lists.{some?}
 use Rattle.base.proofs.Lists.{clash}
 use Rattle.base.specs.Limits.{topMark}
 use Rattle.tree.specs.Parents.{word, parent, up, climbWithin, climb, depth}
-use Rattle.tree.specs.Level.{Ancestor, LevelAncestor, levelAncestor}
+use Rattle.tree.specs.Level.{LevelAncestor, levelAncestor}
 use Rattle.tree.specs.Faults.{Tree, meetsTop}
-use Rattle.tree.proofs.Climbs.{meets, meets-up, parent-some, entry-in, entry-some, up-step, up-first, up-in}
-use Rattle.tree.proofs.OneTree.{tree-meets}
+use Rattle.tree.proofs.Climbs.{meets, meets-up, parent-some, parent-none, entry-in, entry-some, up-step, up-first}
+use Rattle.tree.proofs.OneTree.{tree-meets, root-in}
 
 module _ (ps : List ℕ) (small : length ps ≤ topMark) where
   -- an entry with a parent does not hold the top mark
@@ -87,6 +86,9 @@ module _ (ps : List ℕ) (small : length ps ≤ topMark) where
     -- the top's depth is 0, any other entry's is its parent's plus 1
     pub depth-top : (v : ℕ) → v < length ps → parent ps v ≡ none → depth ps v ≡ 0
     depth-top = end-depth
+
+    pub root-depth : (tree .root < length ps) × (depth ps (tree .root) ≡ 0)
+    root-depth = let (h, w) = root-in ps small tree in (h, depth-top (tree .root) h (parent-none ps (tree .root) h (omega (arith, w))))
 
     pub depth-parent : (v p : ℕ) → parent ps v ≡ some p → depth ps v ≡ suc (depth ps p)
     depth-parent v p e = meets-depth v p (tree-meets ps small tree v (parent-some ps v p e .0)) e

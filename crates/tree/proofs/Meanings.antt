@@ -2,27 +2,22 @@
 use mathlib.Core.Path.{_≡_, refl, sym, ap, _∙_}
 use mathlib.Core.Logic.{_⊎_, inl, inr, _↔_}
 use mathlib.Core.List.{List}
-use mathlib.Core.Bool.{Bool, true, false, cond}
 use mathlib.Core.Option.{Option, none, some, Option·elim}
-use Prim.Native.Nat.{ℕ, suc, _≤_, _<_}
+use Prim.Native.Nat.{ℕ, _≤_, _<_, min}
+use native.Mathlib.Nat.{min-eq-left, min-eq-right}
 use native.Mathlib.Omega.{arith}
 use native.Mathlib.Decide.{decLe}
 use lib.ListN.{length}
 use borrow.Author.Tests.{le-leb, lt-leb}
-use Rattle.base.specs.Numbers.{Outcome, accepted, unknown, tooDeep}
+use Rattle.base.specs.Numbers.{accepted, unknown, tooDeep}
 use Rattle.base.specs.Limits.{topMark}
 use Rattle.tree.specs.Parents.{up, depth}
-use Rattle.tree.specs.Level.{LevelAncestor, levelAncestor}
+use Rattle.tree.specs.Level.{LevelAncestor, RatingClass, at-level, itself}
 use Rattle.tree.specs.Faults.{Tree}
-use Rattle.tree.specs.Questions.{known, classOf, ratingOf, climbOf}
+use Rattle.tree.specs.Questions.{classOf, ratingOf, climbOf}
 use Rattle.tree.proofs.Depths.{level-sound, level-complete, level-defined, level-deep}
 use Rattle.tree.proofs.Climbs.{up-from}
-use Rattle.tree.proofs.Intervals.{ancestor-in}
-
--- the rating lookup is as the level lookup
-pub rating-class : (ps : List ℕ) (v d : ℕ) → ratingOf ps v d ≡ classOf ps v d
-unfolding ratingOf
-rating-class ps v d = refl
+use Rattle.tree.proofs.Intervals.{ancestor-in, ancestor-self}
 
 -- the three cases of a level lookup
 abbrev Cases : List ℕ → ℕ → ℕ → Type 0
@@ -82,6 +77,70 @@ module _ (ps : List ℕ) (small : length ps ≤ topMark) (tree : Tree ps) (v d :
       go (inl h) = omega (arith, ap (λ o. o .number) (class-unknown h))
       go (inr (inl (h, b))) = omega (arith, ap (λ o. o .number) (class-deep h b))
       go (inr (inr (u, l))) = omega (arith, ap (λ o. o .number) (class-ancestor u l))
+
+-- rating: every entry has one class, and 0 is given with that class; 7 means no entry
+module _ (ps : List ℕ) (small : length ps ≤ topMark) (tree : Tree ps) (v d : ℕ) where
+  pub rating-unknown : length ps ≤ v → ratingOf ps v d ≡ unknown v
+  unfolding ratingOf
+  rating-unknown h = rw (le-leb (length ps) v h)
+
+  pub rating-class : (u : ℕ) → RatingClass ps v d u → ratingOf ps v d ≡ accepted u
+  unfolding ratingOf Option·elim
+  rating-class u (at-level w l) = rw (lt-leb (length ps) v (ancestor-in ps small tree w v (l .ancestor) .1), level-complete ps small tree v d w l)
+  rating-class u (itself h b) = rw (lt-leb (length ps) v h, level-deep ps small tree v d b)
+
+  pub class-unique : (u w : ℕ) → RatingClass ps v d u → RatingClass ps v d w → u ≡ w
+  class-unique u w a b = ap (λ o. o .word) (sym (rating-class u a) ∙ rating-class w b)
+
+  -- the class is an entry of depth d or less
+  pub rating-depth : (u : ℕ) → RatingClass ps v d u → (u < length ps) × (depth ps u ≤ d)
+  rating-depth u (at-level w l) = (ancestor-in ps small tree w v (l .ancestor) .0, omega (arith, l .depth-is))
+  rating-depth u (itself h b) = (h, omega arith)
+
+  pub has-class : v < length ps → (u : ℕ) × RatingClass ps v d u
+  has-class h = go (decLe d (depth ps v))
+    where
+      go : Dec (d ≤ depth ps v) → (u : ℕ) × RatingClass ps v d u
+      go (yes b) = let (u, e) = level-defined ps small tree v d h b in (u, at-level u (level-sound ps small tree v d u e))
+      go (no b) = (v, itself h (omega arith))
+
+  pub rating-iff : (u : ℕ) → (ratingOf ps v d ≡ accepted u) ↔ RatingClass ps v d u
+  rating-iff u = (λ e. go e (decLe (length ps) v), rating-class u)
+    where
+      go : ratingOf ps v d ≡ accepted u → Dec (length ps ≤ v) → RatingClass ps v d u
+      go e (yes h) = absurd (omega (arith, ap (λ o. o .number) (sym e ∙ rating-unknown h)))
+      go e (no h) = let (w, c) = has-class (omega arith) in let z : w ≡ u = ap (λ o. o .word) (sym (rating-class w c) ∙ e) in rw z at c
+
+  pub rating-unknown-iff : (ratingOf ps v d .number ≡ 7) ↔ (length ps ≤ v)
+  rating-unknown-iff = (λ e. go e (decLe (length ps) v), λ h. ap (λ o. o .number) (rating-unknown h))
+    where
+      go : ratingOf ps v d .number ≡ 7 → Dec (length ps ≤ v) → length ps ≤ v
+      go e (yes h) = h
+      go e (no h) = let (u, c) = has-class (omega arith) in absurd (omega (arith, ap (λ o. o .number) (rating-class u c)))
+
+  -- an entry of depth d or less is its own class
+  own-ancestor : v < length ps → LevelAncestor ps v (depth ps v) v
+  own-ancestor h = record { ancestor = ancestor-self ps small tree v h; depth-is = refl }
+
+  pub own-class : v < length ps → depth ps v ≤ d → RatingClass ps v d v
+  own-class h low = go (decLe d (depth ps v))
+    where
+      go : Dec (d ≤ depth ps v) → RatingClass ps v d v
+      go (yes b) = let e : depth ps v ≡ d = omega arith in at-level v (rw e at (own-ancestor h))
+      go (no b) = itself h (omega arith)
+
+  -- it is the level ancestor at the smaller of d and the entry's depth
+  pub rating-of-smaller : ratingOf ps v d ≡ classOf ps v (min d (depth ps v))
+  rating-of-smaller = go (decLe (length ps) v) (decLe d (depth ps v))
+    where
+      go : Dec (length ps ≤ v) → Dec (d ≤ depth ps v) → ratingOf ps v d ≡ classOf ps v (min d (depth ps v))
+      go (yes h) b = rating-unknown h ∙ sym (class-unknown ps small tree v (min d (depth ps v)) h)
+      go (no h) (yes b) =
+          let (u, e) = level-defined ps small tree v d (omega arith) b in
+          let l = level-sound ps small tree v d u e in
+          rating-class u (at-level u l) ∙ sym (class-ancestor ps small tree v d u l) ∙ ap (classOf ps v) (sym (min-eq-left b))
+      go (no h) (no b) =
+          rating-class v (itself (omega arith) (omega arith)) ∙ sym (class-ancestor ps small tree v (depth ps v) v (own-ancestor (omega arith))) ∙ ap (classOf ps v) (sym (min-eq-right (omega arith)))
 
 -- climbing k up: 7 means no entry, 8 an entry with none k climbs above it, 0 that one, and no other number comes
 module _ (ps : List ℕ) (v k : ℕ) where

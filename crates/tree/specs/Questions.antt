@@ -1,7 +1,7 @@
--- What the five questions mean, by climbing from parent to parent. The class of an entry at a level is its level ancestor there. Assumes nothing.
+-- What the five questions mean, by climbing from parent to parent. The class of an entry at a depth is its level ancestor there. Assumes nothing.
 use mathlib.Core.List.{List}
 use mathlib.Core.Bool.{cond}
-use mathlib.Core.Option.{Option, Option·elim}
+use mathlib.Core.Option.{Option·elim}
 use Prim.Native.Nat.{ℕ}
 use lib.ListN.{length}
 use lib.Dec.{leb}
@@ -18,9 +18,9 @@ known ps v o = cond (leb (length ps) v) (unknown v) o
 unfoldable pub classOf : List ℕ → ℕ → ℕ → Outcome
 classOf ps v d = known ps v (Option·elim (levelAncestor ps v d) (tooDeep v) accepted)
 
--- rating at rating level d: as level
+-- rating at rating level d: v itself where it has no ancestor at depth d
 unfoldable pub ratingOf : List ℕ → ℕ → ℕ → Outcome
-ratingOf ps v d = classOf ps v d
+ratingOf ps v d = known ps v (accepted (Option·elim (levelAncestor ps v d) v (λ u. u)))
 
 -- climb: 8 where no entry is k climbs above v
 unfoldable pub climbOf : List ℕ → ℕ → ℕ → Outcome

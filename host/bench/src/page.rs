@@ -122,10 +122,11 @@ pub fn page(rows: &[Row]) -> String {
 
 Written by the benchmark itself (`host/run bench`). Every figure is a median of runs that take turns in one process:
 the proved code through its C interface, and the same work by hand in Rust (`host/reference`), cell list included. Trees
-have their numbers permuted. Preparing is in nanoseconds an entry, a question in nanoseconds. The premium is asked at the
-levels of the level lookup, with a rate for each entry and sums of both signs. A sheet with bands has 4,096 lines in any order,
-for a level of at most 512 classes; its check is in microseconds, and a quotation is asked from the checked sheet. A plain climb
-and binary lifting answer the level lookup only, and list no cells.
+have their numbers permuted. Preparing is in nanoseconds an entry, a question in nanoseconds. The level lookup is asked at
+depths up to the entry's; rating and premium at the depth of any entry, the premium with a rate for each entry and sums of both
+signs. A sheet with bands has 4,096 lines in any order, for the deepest level of at most 512 classes; its check is in
+microseconds, and a quotation of any entry is asked from the checked sheet. A plain climb and binary lifting answer the level
+lookup only, and list no cells.
 
 Machine: {}.
 

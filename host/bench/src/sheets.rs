@@ -14,16 +14,15 @@ pub struct Work<'a> {
     text: Vec<u8>,
 }
 
-/// Of the levels down to which none has too many classes, the first with most.
+/// The deepest level that does not have too many classes, the entries of its depth or less.
 fn level_of(depths: &[u32]) -> u32 {
-    let deepest = depths.iter().max().copied().unwrap_or(0);
-    let mut classes = vec![0; deepest as usize + 1];
-    for &depth in depths {
-        classes[depth as usize] += 1;
+    let mut ordered = depths.to_vec();
+    ordered.sort_unstable();
+    let deepest = ordered[ordered.len().min(MOST_CLASSES) - 1];
+    match ordered.get(MOST_CLASSES) {
+        Some(&next) if next == deepest => deepest.saturating_sub(1),
+        _ => deepest,
     }
-    let fit = classes.iter().take_while(|&&c| c <= MOST_CLASSES);
-    let most = fit.max().copied();
-    classes.iter().position(|&c| Some(c) == most).unwrap_or(0) as u32
 }
 
 /// Bands of a class that hold every amount once, as lines.
@@ -43,7 +42,7 @@ impl<'a> Work<'a> {
     /// The lines stand in any order.
     pub fn new(table: &'a Table, depths: &[u32], below: &mut impl FnMut(usize) -> u32) -> Self {
         let level = level_of(depths);
-        let entries = (0..).zip(depths).filter(|(_, &depth)| depth == level);
+        let entries = (0..).zip(depths).filter(|(_, &depth)| depth <= level);
         let classes: Vec<u32> = entries.map(|(class, _)| class).collect();
         let mut lines = Vec::new();
         for (i, &class) in classes.iter().enumerate() {
@@ -79,17 +78,16 @@ impl<'a> Work<'a> {
         checked.expect("a good sheet")
     }
 
-    /// Both ways of a quotation: entries that have a class at the level, and a sum of any size for each.
+    /// Both ways of a quotation: entries of every depth, and a sum of any size for each.
     pub fn quote_times(&self, depths: &[u32], below: &mut impl FnMut(usize) -> u32) -> [f64; 2] {
         let (table, words) = (self.table, self.table.words());
         let (ours, theirs) = (self.checked(), self.checked_by_hand());
-        let mut asked: Vec<(u32, i64)> = Vec::new();
-        while asked.len() < 200_000 {
-            let v = below(depths.len());
-            if depths[v as usize] >= self.level {
-                asked.push((v, i64::from(below(4_000_000_001)) - MOST_SUM));
-            }
-        }
+        let asked: Vec<(u32, i64)> = (0..200_000)
+            .map(|_| {
+                let v = below(depths.len());
+                (v, i64::from(below(4_000_000_001)) - MOST_SUM)
+            })
+            .collect();
         times(
             &asked,
             |(v, sum)| {

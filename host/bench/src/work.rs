@@ -95,7 +95,7 @@ fn question_times(
     )
 }
 
-/// Both ways of the premium, at the levels of a lookup: a rate for each entry, and a sum of any size for each question.
+/// Both ways of the premium, at rating levels: a rate for each entry, and a sum of any size for each question.
 fn premium_times(
     table: &Table,
     asked: &[(u32, u32)],
@@ -168,11 +168,12 @@ fn other_times(parents: &[u32], depth: &[u32], asked: &[(u32, u32)]) -> (f64, f6
     (median(a), median(b))
 }
 
-/// Arguments of the five questions: an entry with a depth up to its own; with its climbs; and with one of its ancestors, as
-/// the upper of two.
+/// Arguments of the five questions: an entry with a depth up to its own; with its climbs; with the depth of any entry, as a
+/// rating level; and with one of its ancestors, as the upper of two.
 struct Asked {
     level: Vec<(u32, u32)>,
     climb: Vec<(u32, u32)>,
+    rating: Vec<(u32, u32)>,
     pairs: Vec<(u32, u32)>,
 }
 
@@ -185,11 +186,15 @@ impl Asked {
             })
             .collect();
         let climb = level.iter().map(|&(v, d)| (v, depth[v as usize] - d));
+        let rating = level
+            .iter()
+            .map(|&(v, _)| (v, depth[below(depth.len()) as usize]));
         let pairs = level
             .iter()
             .map(|&(v, d)| (table.level(v, d).result().unwrap_or(v), v));
         Asked {
             climb: climb.collect(),
+            rating: rating.collect(),
             pairs: pairs.collect(),
             level,
         }
@@ -210,7 +215,7 @@ impl Asked {
                 |v, k| reference::climb(words, v, k),
             ),
             question_times(
-                &self.level,
+                &self.rating,
                 |v, d| table.rating(v, d),
                 |v, d| reference::rating(words, v, d),
             ),
@@ -238,7 +243,7 @@ pub fn time(n: usize, kind: usize, name: &'static str) -> Row {
     let mut below = |k: usize| trees::below(&mut seed, k);
     let asked = Asked::new(&table, depth, &mut below);
     let [level, climb, rating, ancestry, branch] = asked.times(&table);
-    let premium = premium_times(&table, &asked.level, &mut below);
+    let premium = premium_times(&table, &asked.rating, &mut below);
     let sheet = sheets::Work::new(&table, depth, &mut below);
     let quotation = sheet.quote_times(depth, &mut below);
     let (plain, lifting) = other_times(&parents, depth, &asked.level);

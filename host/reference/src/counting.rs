@@ -17,13 +17,13 @@ fn line(bytes: &[u8]) -> Option<[u64; 4]> {
 /// Number, word and amount of the check of a sheet of level d, by the depths of all entries. How many bands hold an amount
 /// changes only where one begins, or behind its end, so no other amount can be the lowest at fault.
 pub fn counted(depths: &[u32], text: &[u8], d: u32) -> (u32, u32, u32) {
-    let at_level = |class: u64| depths.get(class as usize) == Some(&d);
+    let covered = |class: u64| depths.get(class as usize).is_some_and(|&depth| depth <= d);
     let mut bands = Vec::new();
     for (i, bytes) in text.split_inclusive(|&b| b == b'\n').enumerate() {
         match line(bytes) {
             Some([class, from, to, rate])
                 if i < 4_096
-                    && at_level(class)
+                    && covered(class)
                     && from <= to
                     && to <= 2_000_000_000
                     && rate <= 1_000_000 =>
@@ -33,7 +33,7 @@ pub fn counted(depths: &[u32], text: &[u8], d: u32) -> (u32, u32, u32) {
             _ => return (13, i as u32 + 1, 0),
         }
     }
-    for class in (0..depths.len() as u64).filter(|&c| at_level(c)) {
+    for class in (0..depths.len() as u64).filter(|&c| covered(c)) {
         let own = bands.iter().filter(|b| b.0 == class);
         let mut amounts: Vec<u64> = own.clone().flat_map(|b| [b.1, b.2 + 1]).collect();
         amounts.push(0);

@@ -83,16 +83,19 @@ fn known(word: u32, s: Sections) -> Result<u32, Refusal> {
     }
 }
 
-/// Steps 2 to 4; `climbs` takes d as a number of climbs.
-fn look(r: &mut Reader, s: Sections, v: u32, d: u32, climbs: bool) -> Result<u32, Refusal> {
+/// Steps 2 to 4: the ancestor of v at the depth that is wanted of an entry of v's depth, or 8 where there is none.
+#[inline(always)]
+fn look(
+    r: &mut Reader,
+    s: Sections,
+    v: u32,
+    wanted: impl FnOnce(u32) -> Option<u32>,
+) -> Result<u32, Refusal> {
     if v as usize >= s.n {
         return Err((7, v));
     }
     let depth = known(r.read(s.depth() + v as usize), s)?;
-    if d > depth {
-        return Err((8, v));
-    }
-    let d = if climbs { depth - d } else { d };
+    let d = wanted(depth).ok_or((8, v))?;
     if d == depth {
         return Ok(v);
     }
@@ -147,11 +150,16 @@ fn look(r: &mut Reader, s: Sections, v: u32, d: u32, climbs: bool) -> Result<u32
     known(class, s)
 }
 
+/// The level lookup's depth: d, of an entry that is at least as deep.
+fn at_depth(d: u32) -> impl FnOnce(u32) -> Option<u32> {
+    move |depth| (d <= depth).then_some(d)
+}
+
 /// The class of v at depth d.
 #[inline(never)]
 pub fn level(table: &[u32], v: u32, d: u32) -> Answer {
     let mut r = Reader::new(table);
-    let result = r.open().and_then(|s| look(&mut r, s, v, d, false));
+    let result = r.open().and_then(|s| look(&mut r, s, v, at_depth(d)));
     r.answer(result)
 }
 
@@ -159,16 +167,19 @@ pub fn level(table: &[u32], v: u32, d: u32) -> Answer {
 #[inline(never)]
 pub fn climb(table: &[u32], v: u32, k: u32) -> Answer {
     let mut r = Reader::new(table);
-    let result = r.open().and_then(|s| look(&mut r, s, v, k, true));
+    let result = r
+        .open()
+        .and_then(|s| look(&mut r, s, v, |depth| depth.checked_sub(k)));
     r.answer(result)
 }
 
-/// The class of v at rating level d, as a reader finds it.
+/// The class of v at rating level d, or v where it is less deep, as a reader finds it.
 pub(crate) fn rated(r: &mut Reader, v: u32, d: u32) -> Result<u32, Refusal> {
-    r.open().and_then(|s| look(r, s, v, d, false))
+    r.open()
+        .and_then(|s| look(r, s, v, |depth| Some(d.min(depth))))
 }
 
-/// The class of v at rating level d.
+/// The class of v at rating level d, or v where it is less deep.
 #[inline(never)]
 pub fn rating(table: &[u32], v: u32, d: u32) -> Answer {
     let mut r = Reader::new(table);
@@ -213,7 +224,7 @@ fn towards(r: &mut Reader, u: u32, v: u32) -> Result<u32, Refusal> {
     }
     let depth = known(r.read(s.depth() + u as usize), s)?;
     let s = r.open()?;
-    look(r, s, v, depth + 1, false).map_err(|refusal| match refusal {
+    look(r, s, v, at_depth(depth + 1)).map_err(|refusal| match refusal {
         (8, _) => BROKEN,
         other => other,
     })

@@ -1,5 +1,5 @@
-//! Sheets with bands: a sheet is read once, sorted, and swept beside the classes of its level; a quotation finds its
-//! band by binary search.
+//! Sheets with bands: a sheet is read once, sorted, and swept beside the entries that it is to cover; a quotation finds
+//! its band by binary search.
 
 use crate::premium::{at_rate, size, Quote, MOST_RATE, MOST_SUM};
 use crate::questions::{rated, Reader, Refusal};
@@ -86,7 +86,9 @@ fn band(text: &[u8]) -> Option<(Band, &[u8])> {
 /// The bands of a text, or 13.
 fn read(text: &[u8], depths: &[u32], d: u32) -> Result<Vec<Band>, Fault> {
     let legal = |b: &Band| {
-        depths.get(b.class as usize) == Some(&d)
+        depths
+            .get(b.class as usize)
+            .is_some_and(|&depth| depth <= d)
             && b.from <= b.to
             && b.to <= MOST_SUM
             && b.rate <= MOST_RATE
@@ -123,10 +125,10 @@ fn whole(class: u32, bands: &[Band]) -> Result<(), Fault> {
     Ok(())
 }
 
-/// The same of every class of a level; the bands are all of such classes.
+/// The same of every entry of depth d or less; the bands are all of such classes.
 fn sweep(bands: &[Band], depths: &[u32], d: u32) -> Result<(), Fault> {
     let mut rest = bands;
-    for (class, _) in (0..).zip(depths).filter(|(_, &depth)| depth == d) {
+    for (class, _) in (0..).zip(depths).filter(|(_, &depth)| depth <= d) {
         let own = rest.iter().take_while(|b| b.class == class).count();
         let (of_class, after) = rest.split_at(own);
         whole(class, of_class)?;

@@ -5,6 +5,7 @@ use crate::premium::MOST_SUM;
 use crate::refusal::Refusal;
 use crate::sheet::MOST_LINES;
 use crate::table::Table;
+use std::collections::HashSet;
 
 /// A line of the class at fault.
 struct Band {
@@ -33,28 +34,67 @@ impl Band {
 
 /// Why a sheet of a level is refused, in words.
 pub fn fault(table: &Table, text: &[u8], level: u32, refusal: Refusal) -> String {
+    let covered = classes(table, level).len();
     match refusal {
-        _ if classes(table, level) > MOST_LINES => format!(
-            "{} entries are at depth {level}, and a sheet has at most {MOST_LINES} lines: no sheet can cover them, so give a higher level",
-            classes(table, level)
+        _ if covered > MOST_LINES => format!(
+            "{covered} entries are at depth {level} or less, and a sheet has at most {MOST_LINES} lines: no sheet can cover them, so give a level nearer the top"
         ),
         Refusal::BadLine(line) if line as usize > MOST_LINES => {
             let count = text.split_inclusive(|&b| b == b'\n').count();
             format!("line {line} is past the {MOST_LINES}th: a sheet has at most {MOST_LINES} lines, and this one has {count}: join neighbouring bands of one rate, or leave lines out")
         }
         Refusal::BadLine(line) => bad_line(table, text, level, line),
-        Refusal::Gap { class, amount } => gap(&of_class(text, class), class, amount.into()),
+        Refusal::Gap { class, amount } => {
+            gap(&of_class(text, class), class, amount.into()) + &unlisted(table, text, level, class)
+        }
         Refusal::Overlap { class, amount } => overlap(&of_class(text, class), class, amount.into()),
         other => other.to_string(),
     }
 }
 
-/// How many entries a sheet of a level is to cover.
-fn classes(table: &Table, level: u32) -> usize {
+/// The entries that a sheet of a level is to cover.
+fn classes(table: &Table, level: u32) -> Vec<u32> {
     let depths = table.words().get(4..4 + table.entries() as usize);
-    depths.map_or(0, |depths| {
-        depths.iter().filter(|&&depth| depth == level).count()
-    })
+    let entries = (0..).zip(depths.unwrap_or(&[]));
+    let covered = entries.filter(|(_, &depth)| depth <= level);
+    covered.map(|(class, _)| class).collect()
+}
+
+/// Behind a class without lines: why it is one, and which others have none. A sheet for the entries at its level alone lacks
+/// all that are above it.
+fn unlisted(table: &Table, text: &[u8], level: u32, class: u32) -> String {
+    let lines = text.split(|&b| b == b'\n').filter_map(lines::numbers);
+    let listed: HashSet<u64> = lines.map(|numbers| numbers[0]).collect();
+    if listed.contains(&class.into()) {
+        return String::new();
+    }
+    let mut others = classes(table, level);
+    others.retain(|&c| c != class && !listed.contains(&c.into()));
+    let named: Vec<String> = others.iter().map(u32::to_string).collect();
+    let more = match named.len() {
+        0 => String::new(),
+        1 => format!(", and 1 other has no lines: {}", joined(named)),
+        count => format!(", and {count} others have no lines: {}", joined(named)),
+    };
+    match level {
+        0 => "; the top alone is a class of level 0".to_string(),
+        _ => format!("; each entry of depth {level} or less is a class{more}"),
+    }
+}
+
+/// Names in a row, of which no more than four are shown.
+fn joined(mut names: Vec<String>) -> String {
+    const SHOWN: usize = 4;
+    if names.len() > SHOWN {
+        let more = names.len() - SHOWN;
+        names.truncate(SHOWN);
+        names.push(format!("{more} more"));
+    }
+    let last = names.pop().unwrap_or_default();
+    if names.is_empty() {
+        return last;
+    }
+    format!("{} and {last}", names.join(", "))
 }
 
 fn bad_line(table: &Table, text: &[u8], level: u32, line: u32) -> String {
@@ -111,19 +151,10 @@ fn gap(bands: &[Band], class: u32, amount: u64) -> String {
 
 /// An amount that more than one line holds, with these lines.
 fn overlap(bands: &[Band], class: u32, amount: u64) -> String {
-    const SHOWN: usize = 4;
     let holding = bands.iter().filter(|b| b.from <= amount && amount <= b.to);
-    let mut named: Vec<String> = holding
-        .map(|b| format!("line {} ({} to {})", b.line, b.from, b.to))
-        .collect();
-    if named.len() > SHOWN {
-        let more = named.len() - SHOWN;
-        named.truncate(SHOWN);
-        named.push(format!("{more} more"));
-    }
-    let last = named.pop().unwrap_or_default();
+    let named = holding.map(|b| format!("line {} ({} to {})", b.line, b.from, b.to));
     format!(
-        "amount {amount} of class {class} is held by {} and {last}: let one line alone hold it",
-        named.join(", ")
+        "amount {amount} of class {class} is held by {}: let one line alone hold it",
+        joined(named.collect())
     )
 }

@@ -132,25 +132,24 @@ fn values([class, from, to, rate]: [u64; 4], table: &Table, level: u32, found: &
     }
 }
 
-/// Why a class is not one of the level.
+/// Why a class is none that the sheet is to cover.
 fn bad_class(class: u64, table: &Table, level: u32) -> Option<String> {
     let n = table.entries();
     let last = n.checked_sub(1)?;
     let depths = table.words().get(4..4 + n as usize)?;
     let Some(&depth) = depths.get(class as usize) else {
         return Some(format!(
-            "names class {class}, and the table has entries 0 to {last}: name one of depth {level}"
+            "names class {class}, and the table has entries 0 to {last}: name one of depth {level} or less"
         ));
     };
-    if depth == level {
+    if depth <= level {
         return None;
     }
-    let write = match table.level(class as u32, level).result() {
-        Ok(upper) => format!("name its class there, {upper}"),
-        Err(_) if depths.contains(&level) => format!("name a class of depth {level}"),
-        Err(_) => format!("no entry is at depth {level}, so give the level that the sheet is for"),
+    let rated = match table.rating(class as u32, level).result() {
+        Ok(upper) => format!(", as it is rated by class {upper}"),
+        Err(_) => String::new(),
     };
     Some(format!(
-        "names class {class}, which is at depth {depth} and not {level}: {write}"
+        "names class {class}, which is at depth {depth}, deeper than level {level}: leave it out{rated}, or give the level that the sheet is for"
     ))
 }

@@ -20,7 +20,7 @@ pub enum Refusal {
     Loop(u32),
     /// 7: an argument is no entry; the first such argument.
     Unknown(u32),
-    /// 8: deeper than the entry; the entry.
+    /// 8: deeper than the entry; the entry. No rating has it.
     TooDeep(u32),
     /// 9: the table is not one that the question can be answered from.
     Broken,
@@ -30,7 +30,7 @@ pub enum Refusal {
     BadRate,
     /// 12: the sum insured is outside -2,000,000,000 to 2,000,000,000.
     BadSum,
-    /// 13: a line of the sheet is no band of a class of its level; the first such line, from 1.
+    /// 13: a line of the sheet is no band of an entry of its level's depth or less; the first such line, from 1.
     BadLine(u32),
     /// 14: an amount of a class is in no band of the sheet; the lowest such class, and its lowest amount.
     Gap { class: u32, amount: u32 },
@@ -152,7 +152,10 @@ impl fmt::Display for Refusal {
                 "the class has no rate from 0 to {MOST_RATE} in the list of rates"
             ),
             Refusal::BadSum => write!(f, "a sum insured is from -{MOST_SUM} to {MOST_SUM}"),
-            Refusal::BadLine(line) => write!(f, "line {line} is not a band of the sheet's level"),
+            Refusal::BadLine(line) => write!(
+                f,
+                "line {line} is not a band of a class that the sheet is to cover"
+            ),
             Refusal::Gap { class, amount } => {
                 write!(f, "no line holds amount {amount} of class {class}")
             }

@@ -38,7 +38,7 @@ pub struct Sheet {
 }
 
 impl Sheet {
-    /// Checks a sheet of rating level d for a table.
+    /// Checks a sheet of rating level d for a table: it covers each entry of depth d or less.
     pub fn check(table: &Table, text: &[u8], d: u32) -> Result<Sheet, Refusal> {
         let words = vec![0; SHEET_WORDS].into_boxed_slice();
         let mut words: Box<[u64; SHEET_WORDS]> = words.try_into().expect("as many words");

@@ -133,7 +133,7 @@ impl Table {
         self.ask(ffi::tantsheko_climb, v, k)
     }
 
-    /// The class of v at rating level d.
+    /// The class of v at rating level d, or v itself where it is less deep.
     #[inline]
     pub fn rating(&self, v: u32, d: u32) -> Answer {
         self.ask(ffi::tantsheko_rating, v, d)

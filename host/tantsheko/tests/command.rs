@@ -25,7 +25,7 @@ fn from_text_to_price_list() {
     let prices = f.ok(&["pricelist", "table", "0", "6"], "");
     assert_eq!(
         prices,
-        "entry,level 0,level 6\n0,0,-\n1,0,-\n2,0,-\n3,0,-\n4,0,-\n5,0,-\n6,0,6\n7,0,6\n"
+        "entry,level 0,level 6\n0,0,0\n1,0,1\n2,0,2\n3,0,3\n4,0,4\n5,0,5\n6,0,6\n7,0,6\n"
     );
     assert_eq!(
         f.ok(&["check", "table", "list"], ""),
@@ -55,8 +55,8 @@ fn a_stream_of_questions() {
     f.file("list", CHAIN);
     f.ok(&["prepare", "list", "table"], "");
     let questions =
-        "7,1\n7,8\n8,0\nclass,7,5\nclimb,7,2\nrating,7,1\nabove,2,5\nbranch,2,5\nbranch,5,2\n";
-    let answers = "7,1,0,1,10\n7,8,8,-,2\n8,0,7,-,1\nclass,7,5,0,5,6\nclimb,7,2,0,5,6\nrating,7,1,0,1,10\nabove,2,5,0,1,4\nbranch,2,5,0,3,11\nbranch,5,2,10,-,4\n";
+        "7,1\n7,8\n8,0\nclass,7,5\nclimb,7,2\nrating,7,1\nrating,2,7\nrating,8,0\nabove,2,5\nbranch,2,5\nbranch,5,2\n";
+    let answers = "7,1,0,1,10\n7,8,8,-,2\n8,0,7,-,1\nclass,7,5,0,5,6\nclimb,7,2,0,5,6\nrating,7,1,0,1,10\nrating,2,7,0,2,2\nrating,8,0,7,-,1\nabove,2,5,0,1,4\nbranch,2,5,0,3,11\nbranch,5,2,10,-,4\n";
     assert_eq!(f.ok(&["batch", "table"], questions), answers);
     assert_eq!(f.ok(&["batch", "table"], "7,1"), "7,1,0,1,10\n");
     for bad in [

@@ -101,6 +101,17 @@ fn climbed(parents: &[u32], v: u32, d: u32) -> Result<u32, Refusal> {
     climb.get(d as usize).copied().ok_or(Refusal::TooDeep(v))
 }
 
+/// Level lookup and rating against the climb; an entry less deep than the rating level is rated as itself.
+fn same_climb(table: &Table, parents: &[u32], v: u32, d: u32) {
+    let class = climbed(parents, v, d);
+    assert_eq!(table.level(v, d).result(), class);
+    let rated = match class {
+        Err(Refusal::TooDeep(v)) => Ok(v),
+        other => other,
+    };
+    assert_eq!(table.rating(v, d).result(), rated);
+}
+
 #[test]
 fn every_small_list() {
     let mut seed = 5;
@@ -125,7 +136,7 @@ fn every_small_list() {
                 for d in 0..=n as u32 {
                     same_answers(&table, v, d);
                     same_premium(&table, &rates, v, d, some_sum(&mut seed));
-                    assert_eq!(table.level(v, d).result(), climbed(&parents, v, d));
+                    same_climb(&table, &parents, v, d);
                 }
             }
         }
@@ -168,7 +179,7 @@ fn random_trees() {
             let d = below(&mut seed, depth + 2);
             same_answers(&table, v, d);
             same_premium(&table, &rates, v, d, some_sum(&mut seed));
-            assert_eq!(table.level(v, d).result(), climbed(&parents, v, d));
+            same_climb(&table, &parents, v, d);
             same_answers(&table, v, below(&mut seed, n + 1));
         }
     }
@@ -221,6 +232,7 @@ fn damaged_tables() {
             for _ in 0..40 {
                 let (a, b) = (below(&mut seed, n + 1), below(&mut seed, n + 1));
                 same_answers(&table, a, b);
+                same_answers(&table, a, u32::MAX);
                 same_premium(&table, &rates, a, b, some_sum(&mut seed));
             }
         }

@@ -16,16 +16,19 @@ fn desk(name: &str) -> Folder {
 #[test]
 fn one_premium() {
     let f = desk("premium");
-    for (level, sum, answer) in [
-        ("1", "25", "1,3\n"),
-        ("1", "-25", "1,-3\n"),
-        ("1", "24", "1,2\n"),
-        ("2", "2000000000", "2,0\n"),
-        ("4", "-2000000000", "4,-200000000000\n"),
+    for (entry, level, sum, answer) in [
+        ("7", "1", "25", "1,3\n"),
+        ("7", "1", "-25", "1,-3\n"),
+        ("7", "1", "24", "1,2\n"),
+        ("7", "2", "2000000000", "2,0\n"),
+        ("7", "4", "-2000000000", "4,-200000000000\n"),
+        ("1", "9", "25", "1,3\n"),
     ] {
-        let call = ["premium", "table", "rates", "7", level, sum];
+        let call = ["premium", "table", "rates", entry, level, sum];
         assert_eq!(f.ok(&call, ""), answer);
     }
+    let call = ["premium", "table", "rates", "1", "9", "25", "--cells"];
+    assert_eq!(f.ok(&call, ""), "1,3\ncells 0 5\n");
     let call = ["premium", "table", "rates", "7", "1", "25", "--cells"];
     assert_eq!(f.ok(&call, ""), "1,3\ncells 0 11 19 69 70 14 92 93 21 53\n");
 }
@@ -36,7 +39,7 @@ fn refused_premiums_in_words() {
     let range = "is out of range: a sum insured is from -2000000000 to 2000000000";
     for (entry, level, sum, text) in [
         ("8", "0", "25", "8 is not an entry: the table has entries 0 to 7"),
-        ("7", "8", "25", "entry 7 has depth 7, so it has no class at level 8: ask a level up to 7"),
+        ("7", "8", "25", "class 7 has no rate: rates has 5 lines, and the rate belongs on line 8: add what is missing"),
         ("7", "3", "25", "class 3 has rate 1000001, and a rate is at most 1000000 per million: mend line 4 of rates"),
         ("7", "5", "2000000001", "class 5 has no rate: rates has 5 lines, and the rate belongs on line 6: add what is missing"),
         ("7", "1", "2000000001", &format!("2000000001 {range}")),
@@ -89,7 +92,7 @@ fn a_stream_of_premiums() {
     f.file("rates", "5\n1000\n");
     f.ok(&["prepare", "list", "table"], "");
     let sums = "7,25\n7,-25\r\n1,-007\n0,25\n8,25\n7,2000000001\n7,-9223372036854775809\n";
-    let premiums = "7,25,0,1,3,10\n7,-25,0,1,-3,10\n1,-007,0,1,-1,2\n0,25,8,-,-,2\n8,25,7,-,-,1\n7,2000000001,12,-,-,10\n7,-9223372036854775809,12,-,-,10\n";
+    let premiums = "7,25,0,1,3,10\n7,-25,0,1,-3,10\n1,-007,0,1,-1,2\n0,25,0,0,0,2\n8,25,7,-,-,1\n7,2000000001,12,-,-,10\n7,-9223372036854775809,12,-,-,10\n";
     assert_eq!(f.ok(&["premiums", "table", "rates", "1"], sums), premiums);
     assert_eq!(
         f.ok(&["premiums", "table", "rates", "2"], "7,25"),

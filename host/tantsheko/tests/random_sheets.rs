@@ -6,10 +6,10 @@ use beside::{depths, same, same_quote, text, Line, MOST, TOP};
 use reference::trees::{below, make as tree, next};
 use tantsheko::{Refusal, Sheet, Table};
 
-/// Lines that hold every amount of each class of a level once, in any order.
+/// Lines that hold every amount of each class of a level, the entries of its depth or less, once, in any order.
 fn good_lines(seed: &mut u64, depths: &[u32], d: u32, most: usize) -> Vec<Line> {
     let mut lines = Vec::new();
-    for class in (0..depths.len()).filter(|&c| depths[c] == d) {
+    for class in (0..depths.len()).filter(|&c| depths[c] <= d) {
         let mut ends = vec![MOST];
         for _ in 0..below(seed, most) {
             ends.push(match below(seed, 4) {
@@ -34,9 +34,6 @@ fn good_lines(seed: &mut u64, depths: &[u32], d: u32, most: usize) -> Vec<Line> 
 
 /// Changes a sheet's lines so that it may be refused.
 fn spoil_lines(seed: &mut u64, lines: &mut Vec<Line>, n: usize) {
-    if lines.is_empty() {
-        lines.push([0, 0, MOST, 5]);
-    }
     let at = below(seed, lines.len()) as usize;
     let line = &mut lines[at];
     match below(seed, 12) {
@@ -154,7 +151,7 @@ fn damaged(seed: &mut u64, table: &Table) -> Vec<u32> {
 fn damaged_tables() {
     let mut seed = 22;
     let mut unheld = 0;
-    for k in 0..6_000usize {
+    for k in 0..10_000usize {
         let n = 2 + below(&mut seed, 12) as usize;
         let table = Table::prepare(&tree(k, n, &mut seed, true)).unwrap();
         let words = damaged(&mut seed, &table);

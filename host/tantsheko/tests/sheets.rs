@@ -5,18 +5,22 @@ mod beside;
 use beside::{same, text, Line, MOST, TOP};
 use tantsheko::{check_into, Quote, Refusal, Table, SHEET_WORDS};
 
-/// The top with two classes below it, of which each has an entry: level 1 has classes 1 and 2.
+/// The top with two entries below it, of which each has another: a sheet of level 1 covers 0, 1 and 2.
 fn small() -> Table {
     Table::prepare(&[TOP, 0, 0, 1, 2]).unwrap()
 }
 
-/// The verdict on a sheet of level 1.
-fn told(text: &str) -> (u32, u32, u32) {
+/// A good sheet of level 1: three lines of 17 bytes.
+const GOOD: &[u8] = b"0,0,2000000000,5\n1,0,2000000000,5\n2,0,2000000000,5\n";
+
+/// The verdict on a sheet of level 1 with the top in one band, on the first line.
+fn told(lines: &str) -> (u32, u32, u32) {
     let asked = [(3, 25), (3, -2_000_000_001), (0, 25)];
+    let text = format!("0,0,2000000000,700\n{lines}");
     same(&small(), text.as_bytes(), 1, &asked)
 }
 
-/// The same with class 2 in one band, on the first line.
+/// The same with class 2 in one band, on the second line.
 fn with(lines: &str) -> (u32, u32, u32) {
     told(&format!("2,0,2000000000,500\n{lines}"))
 }
@@ -24,14 +28,14 @@ fn with(lines: &str) -> (u32, u32, u32) {
 #[test]
 fn ends_gaps_and_overlaps() {
     // Ends at 0 and at 2,000,000,000; bands of one amount.
-    assert_eq!(with("1,0,2000000000,1000000\n"), (0, 2, 0));
+    assert_eq!(with("1,0,2000000000,1000000\n"), (0, 3, 0));
     assert_eq!(
         with("1,1,1999999999,0\n1,2000000000,2000000000,1\n1,0,0,2\n"),
-        (0, 4, 0)
+        (0, 5, 0)
     );
     assert_eq!(
         with("0000000001,0000000000,2000000000,0000000007\n"),
-        (0, 2, 0)
+        (0, 3, 0)
     );
     // One amount missing, one shared, three bands on one amount.
     assert_eq!(with("1,1,2000000000,5\n"), (14, 1, 0));
@@ -56,19 +60,43 @@ fn the_fault_that_is_named() {
     assert_eq!(with("1,20,2000000000,5\n1,0,9,5\n1,30,40,5\n"), (14, 1, 10));
     assert_eq!(told("2,5,7,1\n1,0,2000000000,5\n"), (14, 2, 0));
     assert_eq!(told("2,0,7,1\n2,7,2000000000,1\n1,0,3,5\n"), (14, 1, 4));
-    // A class without lines, a sheet without lines, a level without entries.
+    // A class without lines, a sheet without lines, for every level.
     let table = small();
     assert_eq!(with(""), (14, 1, 0));
     assert_eq!(told("1,0,2000000000,5\n"), (14, 2, 0));
     assert_eq!(told(""), (14, 1, 0));
-    assert_eq!(same(&table, b"", 3, &[(3, 25)]), (0, 0, 0));
-    assert_eq!(same(&table, b"", u32::MAX, &[(3, 25)]), (0, 0, 0));
-    assert_eq!(same(&table, b"3,0,2000000000,5\n", 3, &[]), (13, 1, 0));
+    for level in [0, 1, 2, 3, u32::MAX] {
+        assert_eq!(same(&table, b"", level, &[(3, 25)]), (14, 0, 0));
+    }
     // A bad line behind a gap and an overlap.
-    assert_eq!(told("1,5,9,1\n1,5,9,1\n1,9,8,1\n2,9,8,1\n"), (13, 3, 0));
+    assert_eq!(told("1,5,9,1\n1,5,9,1\n1,9,8,1\n2,9,8,1\n"), (13, 4, 0));
 }
 
-/// Lines of another form, of no class of level 1 and of numbers over their limits.
+/// A sheet covers each entry of its level's depth or less; only a deeper class has the wrong depth.
+#[test]
+fn levels_above_and_below() {
+    let table = small();
+    let asked: Vec<(u32, i64)> = (0..6).map(|v| (v, 10_000)).collect();
+    let all: Vec<Line> = (0..5).map(|class| [class, 0, MOST, 100 + class]).collect();
+    assert_eq!(same(&table, &text(&all[..1]), 0, &asked), (0, 1, 0));
+    assert_eq!(same(&table, &text(&all[..3]), 1, &asked), (0, 3, 0));
+    for level in [2, 3, u32::MAX] {
+        assert_eq!(same(&table, &text(&all), level, &asked), (0, 5, 0));
+    }
+    assert_eq!(same(&table, &text(&all), 1, &asked), (13, 4, 0));
+    assert_eq!(same(&table, &text(&all), 0, &asked), (13, 2, 0));
+    assert_eq!(same(&table, &text(&all[..3]), 2, &asked), (14, 3, 0));
+    assert_eq!(same(&table, &text(&all[1..]), 2, &asked), (14, 0, 0));
+    let rated = |v: u32, level: u32, lines: usize| {
+        let quote = table.price(&text(&all[..lines]), v, level, 10_000);
+        quote.result().unwrap()
+    };
+    assert_eq!([rated(0, 1, 3), rated(1, 1, 3)], [(0, 100), (1, 101)]);
+    assert_eq!([rated(3, 1, 3), rated(3, 0, 1)], [(1, 101), (0, 100)]);
+    assert_eq!([rated(4, 7, 5), rated(2, 7, 5)], [(4, 104), (2, 102)]);
+}
+
+/// Lines of another form, of no class that a sheet of level 1 covers, and of numbers over their limits.
 const BAD: [&str; 43] = [
     "",
     "1",
@@ -104,7 +132,7 @@ const BAD: [&str; 43] = [
     "1,0,4294967301,5",
     "1,0,5,4294967296",
     "9999999999,0,5,5",
-    "0,0,5,5",
+    "4,0,5,5",
     "3,0,5,5",
     "5,0,5,5",
     "4294967295,0,5,5",
@@ -134,27 +162,25 @@ fn bad_lines() {
             assert_eq!(given, (13, line, 0), "{text:?}");
         }
     }
-    let good = "1,0,2000000000,5\n2,0,2000000000,50\n";
-    for cut in 1..good.len() {
-        let given = same(&table, &good.as_bytes()[..cut], 1, &[]);
-        let expected = if cut == 17 {
-            (14, 2, 0)
-        } else {
-            (13, 1 + (cut > 17) as u32, 0)
+    for cut in 1..GOOD.len() {
+        let given = same(&table, &GOOD[..cut], 1, &[]);
+        let expected = match cut {
+            17 => (14, 1, 0),
+            34 => (14, 2, 0),
+            _ => (13, 1 + cut as u32 / 17, 0),
         };
         assert_eq!(given, expected, "{cut} bytes");
     }
-    assert_eq!(
-        same(&table, good.as_bytes(), 1, &[(4, 2_000_000_000)]),
-        (0, 2, 0)
-    );
+    assert_eq!(same(&table, GOOD, 1, &[(4, 2_000_000_000)]), (0, 3, 0));
 }
 
-/// Lines of class 1 that hold every amount up to the last line's.
+/// Lines of class 1 that hold every amount, behind one each of the top and of class 2.
 fn many(count: u32) -> Vec<Line> {
-    let end = |i: u32| if i + 2 == count { MOST } else { 10 * i + 9 };
-    let own = (0..count - 1).map(|i| [1, 10 * i, end(i), i]);
-    own.chain([[2, 0, MOST, 5]]).rev().collect()
+    let end = |i: u32| if i + 3 == count { MOST } else { 10 * i + 9 };
+    let own = (0..count - 2).map(|i| [1, 10 * i, end(i), i]);
+    own.chain([[2, 0, MOST, 5], [0, 0, MOST, 7]])
+        .rev()
+        .collect()
 }
 
 #[test]
@@ -188,7 +214,7 @@ fn as_many_lines_as_there_may_be() {
     early[4_095][3] = 1_000_001;
     assert_eq!(same(&table, &text(&early), 1, &[]), (13, 4_096, 0));
     let mut short = many(4_096);
-    short[1][2] -= 1;
+    short[2][2] -= 1;
     assert_eq!(same(&table, &text(&short), 1, &[]), (14, 1, MOST));
 }
 
@@ -205,16 +231,15 @@ fn a_refusal_leaves_the_words() {
     for (of, text, number) in [
         (&broken, &b""[..], 9),
         (&table, &over, 13),
-        (&table, b"1,0,2000000000,5\n2,0,2000000000,5", 13),
-        (&table, b"1,0,2000000000,5\n2,0,1999999999,5\n", 14),
-        (&table, b"1,0,2000000000,5\n2,0,2000000000,5\n2,9,9,9\n", 15),
+        (&table, &GOOD[..GOOD.len() - 1], 13),
+        (&table, &GOOD[..34], 14),
+        (&table, &[GOOD, b"2,9,9,9\n"].concat(), 15),
     ] {
         let refusal = check_into(of, text, 1, &mut words).unwrap_err();
         assert_eq!(refusal.number(), number);
         assert!(words == before, "{refusal}");
     }
-    let good = b"1,0,2000000000,5\n2,0,2000000000,5\n";
-    assert_eq!(check_into(&table, good, 1, &mut words), Ok(2));
+    assert_eq!(check_into(&table, GOOD, 1, &mut words), Ok(3));
     assert!(words != before);
 }
 
@@ -222,23 +247,21 @@ fn a_refusal_leaves_the_words() {
 #[test]
 fn refusals_in_order() {
     let table = small();
-    let (bad, good) = (
-        &b"1,0,5\n"[..],
-        &b"1,0,2000000000,5\n2,0,2000000000,5\n"[..],
-    );
+    let bad = b"1,0,5\n";
     let number = |quote: Quote| quote.answer().number();
     let over = i64::from(MOST) + 1;
     let broken = Table::from_words(table.words()[..10].to_vec());
     assert_eq!(number(broken.price(bad, 9, 1, over)), 9);
     assert_eq!(number(table.price(bad, 9, 1, over)), 7);
-    assert_eq!(number(table.price(bad, 0, 1, over)), 8);
+    assert_eq!(number(table.price(bad, 0, 1, over)), 13);
     assert_eq!(number(table.price(bad, 3, 1, over)), 13);
     assert_eq!(number(table.price(b"", 3, 1, over)), 14);
-    assert_eq!(number(table.price(&[good, good].concat(), 3, 1, over)), 15);
-    assert_eq!(number(table.price(good, 3, 1, over)), 12);
-    assert_eq!(table.price(good, 3, 1, -1_000).result(), Ok((1, -1)));
+    assert_eq!(number(table.price(&[GOOD, GOOD].concat(), 3, 1, over)), 15);
+    assert_eq!(number(table.price(GOOD, 3, 1, over)), 12);
+    assert_eq!(table.price(GOOD, 3, 1, -1_000).result(), Ok((1, -1)));
+    assert_eq!(table.price(GOOD, 0, 1, 1_000).result(), Ok((0, 1)));
     let gap = Refusal::Gap {
-        class: 1,
+        class: 0,
         amount: 0,
     };
     assert_eq!(table.price(b"", 3, 1, 5).result(), Err(gap));

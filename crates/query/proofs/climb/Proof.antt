@@ -5,12 +5,13 @@ use Rattle.answers.specs.Steps.{climbing}
 use Rattle.answers.proofs.Bounds.{climbing-within}
 use Rattle.answers.proofs.Numbers.{climbing-numbers}
 use Rattle.climbs.proofs.Questions.{climb-right}
+use Rattle.query.specs.Lookups.{fromLookup}
 use Rattle.query.proofs.Promises.{promised}
 use Rattle.query.proofs.climb.Statement.{statement}
 use Rattle.query.proofs.climb.Tie as tie
 
 pub climb-spec : {M : Type 1} → statement M
-unfolding climbing
+unfolding climbing fromLookup
 climb-spec =
     tie.close
     (tie.spec

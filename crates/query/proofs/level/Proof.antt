@@ -5,12 +5,13 @@ use Rattle.answers.specs.Steps.{level}
 use Rattle.answers.proofs.Bounds.{level-within}
 use Rattle.answers.proofs.Numbers.{level-numbers}
 use Rattle.climbs.proofs.Questions.{level-right}
+use Rattle.query.specs.Lookups.{fromLookup}
 use Rattle.query.proofs.Promises.{promised}
 use Rattle.query.proofs.level.Statement.{statement}
 use Rattle.query.proofs.level.Tie as tie
 
 pub level-spec : {M : Type 1} → statement M
-unfolding level
+unfolding level fromLookup
 level-spec =
     tie.close
     (tie.spec

@@ -40,7 +40,7 @@ module _ (depths : List ℕ) (d k : ℕ) (line : List ℕ) where
     unfolding bind
     line-fair b t e f = ap (λ u. cond u (some b) none) (sym f) ∙ stated (some b) e
 
--- the line from a place on: past the last, of another form, no band of the sheet's level, and one
+-- the line from a place on: past the last, of another form, no band of a class that the sheet is to cover, and one
 module _ (depths : List ℕ) (d k : ℕ) (text : List ℕ) (at : ℕ) where
   pub read-past : mostLines < k → NoneTo (lineBand depths d k) text lineFeed at
   read-past h e next w = line-past depths d k (part at e text) h

@@ -10,6 +10,7 @@ use Rattle.answers.specs.declared.Answer.{Answer}
 use Rattle.answers.proofs.Bounds.{level-within}
 use Rattle.answers.proofs.ProgramAnswers.{few}
 use Rattle.answers.proofs.AnswerWords.{words-same}
+use Rattle.query.specs.Lookups.{fromLookup}
 use Rattle.query.proofs.joining.Joins.{answer-held}
 use Rattle.query.proofs.relate.Relations.{inner-goes}
 use Rattle.query.proofs.Programs.{steps, le-no}
@@ -24,7 +25,7 @@ ten : (t : List ℕ) (v d : ℕ) (a : Answer) → a ≡ answerTo t (level (lengt
 ten t v d a e = rw e (few t 10 (level (length t) v d) (level-within (length t) v d))
 
 pub deeper-spec : {M : Type 1} → statement M
-unfolding deeper inside level
+unfolding deeper inside level fromLookup
 deeper-spec =
     tie.close
     (tie.spec

@@ -1,7 +1,7 @@
 -- `look::look` meets its contract. Assumes nothing.
 use mathlib.Core.Path.{sym, _∙_}
 use borrow.Author.Needs.{needs}
-use Rattle.answers.specs.Steps.{fromEntry}
+use Rattle.query.specs.Lookups.{fromLookup}
 use Rattle.query.proofs.look.Counts.{open-broken, open-next}
 use Rattle.query.proofs.look.look.Statement.{statement}
 use Rattle.query.proofs.look.look.Tie as tie
@@ -18,4 +18,4 @@ look-spec =
     (λ c κs. let count = c .before .before .opened in (count .ensures .room (c .if1 .left), count .ensures .one (c .if1 .left)))
     (λ c.
     let count = c .before .before .before .opened in
-    c .from-entry .ensures ∙ sym (open-next _ (count .result) (fromEntry _ _ _) (c .before .if1 .left)) ∙ count .ensures .goes (fromEntry _ _ _)))
+    c .from-entry .ensures ∙ sym (open-next _ (count .result) (fromLookup _ _ _) (c .before .if1 .left)) ∙ count .ensures .goes (fromLookup _ _ _)))

@@ -4,12 +4,12 @@ use lib.Dec.{lit≤}
 use borrow.Author.Needs.{needs}
 use Rattle.answers.specs.Answers.{answerWords}
 use Rattle.answers.proofs.ProgramAnswers.{whole}
-use Rattle.answers.proofs.Bounds.{look-within}
+use Rattle.query.proofs.look.Lookups.{lookup-within}
 use Rattle.query.proofs.look.look_words.Statement.{statement}
 use Rattle.query.proofs.look.look_words.Tie as tie
 
 returns : tie.Need-returns
-returns c = c .words .ensures ∙ ap answerWords (c .before .look .ensures ∙ whole _ 10 _ (look-within _ _ _ _) (lit≤ tt))
+returns c = c .words .ensures ∙ ap answerWords (c .before .look .ensures ∙ whole _ 10 _ (lookup-within _ _ _ _) (lit≤ tt))
 
 pub look-words-spec : {M : Type 1} → statement M
 look-words-spec =

@@ -1,5 +1,4 @@
 -- `look::wanted` meets its contract. Assumes nothing.
-use mathlib.Core.Path.{refl}
 use native.Mathlib.Omega.{arith}
 use borrow.Author.Needs.{needs}
 use Rattle.query.proofs.look.wanted.Statement.{statement}
@@ -10,5 +9,9 @@ wanted-spec =
     tie.close
     (tie.spec
     (λ c. search needs)
-    (λ c. (rw (c .if1 .taken), omega arith))
-    (λ c. (rw (c .if1 .left), omega arith)))
+    (λ c. search needs)
+    (λ c. search needs)
+    (λ c. search needs)
+    (λ c. (rw (c .enum-told .given .1), omega arith))
+    (λ c. (rw (c .enum-told2 .given .1), omega arith))
+    (λ c. (rw (c .enum-told3 .given .1), omega arith)))

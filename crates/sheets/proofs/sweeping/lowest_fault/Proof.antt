@@ -1,15 +1,17 @@
 -- `sweeping::lowest_fault` meets its contract. Assumes nothing.
 use mathlib.Core.Path.{_≡_}
+use mathlib.Core.Bool.{true}
 use Prim.Native.Nat.{_+_, _-_, _<_}
 use native.Mathlib.Omega.{arith}
 use borrow.Author.Needs.{needs}
-use lib.ListN.{length, getD}
+use lib.ListN.{length}
+use Rattle.bands.specs.Bands.{isClass}
 use Rattle.sheets.proofs.sweeping.Searches.{Checking, check-start, check-pass, check-more, check-found, check-end}
 use Rattle.sheets.proofs.sweeping.lowest_fault.Statement.{statement}
 use Rattle.sheets.proofs.sweeping.lowest_fault.Tie as tie
 
 abbrev Inv-loop : tie.InvT-loop
-Inv-loop keys words depths d class₀ place₀ class place = Checking words keys depths d class place × (class < length depths → getD depths class 0 ≡ d)
+Inv-loop keys words depths d class₀ place₀ class place = Checking words keys depths d class place × (class < length depths → isClass depths d class ≡ true)
 
 abbrev μ-loop : tie.MeasureT-loop
 μ-loop keys words depths d class₀ place₀ class place = length depths - class

@@ -1,4 +1,5 @@
 -- `sweeping::skip_eights` meets its contract. Assumes nothing.
+use mathlib.Core.Path.{sym, _∙_}
 use Prim.Native.Nat.{_-_}
 use native.Mathlib.Omega.{arith}
 use borrow.Author.Needs.{needs}
@@ -22,7 +23,7 @@ loop-again c =
     let one = two .before .before .before .before .before in
     let b = one .before .before .before .before .before .before in
     let both = not-false _ (c .if1 .left) in
-    pass-eight _ _ _ _ (b .loop .inv) (omega arith) (one .differ .ensures (and-first _ _ both)) (two .differ2 .ensures (and-second (one .differ .result) _ both))
+    pass-eight _ _ _ _ (omega arith) (sym (one .none-of-four .ensures) ∙ and-first _ _ both) (sym (two .none-of-four2 .ensures) ∙ and-second (one .none-of-four .result) _ both) (b .loop .inv)
 
 pub skip-eights-spec : {M : Type 1} → statement M
 skip-eights-spec =

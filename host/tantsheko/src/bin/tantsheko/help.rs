@@ -41,6 +41,8 @@ With --cells a second line lists the cells of the table that were read.",
         "answer a stream of questions",
         "A question is a line: `entry,depth` for a class, or one of `class,entry,depth`,
 `climb,entry,count`, `rating,entry,level`, `above,upper,lower`, `branch,upper,lower`.
+A class is as `class` gives it; a rating is the class at that level, or the entry
+itself where it is less deep.
 Each answer is the question with `,refusal,result,cells` behind it: refusal is 0 if
 there is a result, else the result is -; cells is how many cells were read.
 A line of another form ends the stream, after the answers to the lines before it.",
@@ -49,8 +51,8 @@ A line of another form ends the stream, after the answers to the lines before it
         "pricelist",
         "TABLE LEVEL..",
         "the class of each entry at each rating level, as CSV",
-        "A row for each entry: its number, then its class at each level, or - where the
-entry is less deep than the level.",
+        "A row for each entry: its number, then its class at each level, which is the entry
+itself where it is less deep than the level.",
     ),
     (
         "premium",
@@ -58,10 +60,12 @@ entry is less deep than the level.",
         "the premium of a sum insured, in cents",
         "RATES is a text: the rate of entry 0, 1, .. on a line each, from 0 to 1000000 per
 million. SUM is a whole number from -2000000000 to 2000000000; a sum that takes cover
-off is negative. Prints `class,cents`: the class of the entry at that rating level, and
-SUM times its rate divided by 10000, to the nearest cent, a half going away from zero.
-Refused are, in this order: what `class` refuses, a class whose rate is over its limit
-or past the end of RATES (number 11), a sum outside its range (12).
+off is negative. Prints `class,cents`: the class of the entry at that rating level, or
+the entry itself where it is less deep, and SUM times its rate divided by 10000, to the
+nearest cent, a half going away from zero.
+Refused are, in this order: what the lookup refuses (a number that is no entry, 7, or a
+damaged table, 9), a class whose rate is over its limit or past the end of RATES (11), a
+sum outside its range (12).
 With --cells a second line lists the cells of the table that were read.",
     ),
     (
@@ -78,9 +82,9 @@ A line of another form ends the stream, after the answers to the lines before it
         "TABLE SHEET LEVEL",
         "check a sheet of bands for a rating level",
         "SHEET is a text of up to 4096 lines `class,from,to,rate` in any order, each ended by a
-line feed, in digits alone: a class of depth LEVEL, a band of amounts from 0 to
-2000000000, ends included, and its rate from 0 to 1000000 per million. Each class of
-that depth must have every amount in one band only.
+line feed, in digits alone: a class, a band of amounts from 0 to 2000000000, ends
+included, and its rate from 0 to 1000000 per million. Each entry of depth LEVEL or less
+is a class, the top too, and must have every amount in one band only.
 Prints `0,lines` for a good sheet, else the first fault, and says on standard error
 how to mend it: `13,line` for the first bad line; `14,class,amount` for the lowest
 class at fault and its lowest faulty amount where no band holds it, and
@@ -91,8 +95,9 @@ class at fault and its lowest faulty amount where no band holds it, and
         "TABLE SHEET LEVEL ENTRY SUM [--cells]",
         "the premium of a sum insured by a sheet, in cents",
         "SHEET is as for `sheet`, and SUM as for `premium`; the band is that of the size of SUM
-without its sign. Prints `class,cents`. Refused are, in this order: what `class`
-refuses, what `sheet` refuses, a sum outside its range (number 12).
+without its sign. Prints `class,cents`; the class is as for `premium`. Refused are, in
+this order: what the lookup refuses (7, 9), what `sheet` refuses (13, 14, 15), a sum
+outside its range (12).
 With --cells a second line lists the cells of the table that were read.",
     ),
     (

@@ -23,9 +23,6 @@ pub fn refused(table: &Table, question: &str, a: u32, b: u32, refusal: Refusal) 
             Some(depth) if question == "climb" => {
                 format!("entry {v} has depth {depth}, so {b} climbs lead past the top")
             }
-            Some(depth) if question == "premium" => {
-                format!("entry {v} has depth {depth}, so it has no class at level {b}: ask a level up to {depth}")
-            }
             Some(depth) => format!("entry {v} has depth {depth}, so it has no class at depth {b}"),
             None => refusal.to_string(),
         },

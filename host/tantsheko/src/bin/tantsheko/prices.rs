@@ -3,7 +3,6 @@
 use crate::stream::put;
 use crate::{number, open, Done, Stop};
 use std::io::{BufWriter, Write};
-use tantsheko::Refusal;
 
 pub fn pricelist(args: &[String]) -> Done {
     let [path, levels @ ..] = args else {
@@ -34,10 +33,9 @@ pub fn pricelist(args: &[String]) -> Done {
             row.push(b',');
             match table.rating(v, level).result() {
                 Ok(class) => put(&mut row, class.into()),
-                Err(Refusal::TooDeep(_)) => row.push(b'-'),
-                Err(other) => {
+                Err(refusal) => {
                     output.flush()?;
-                    return Err(Stop::Fault(format!("entry {v}: {other}")));
+                    return Err(Stop::Fault(format!("entry {v}: {refusal}")));
                 }
             }
         }
