@@ -79,10 +79,11 @@ module _ (ps t : List ℕ) (p : Prepared ps t) where
       (λ h b. level-deep ps (small ps t p) (tree ps t p) v d b)
       (λ h b. (b, sym (level-in ps (small ps t p) (tree ps t p) v d b)))
 
-  -- rating: the level lookup at the smaller of d and the entry's depth
+  -- the word that `Smaller` speaks of is the entry's depth
   pub depth-stated : (v : ℕ) → v < length ps → depthWord t v ≡ depth ps v
   depth-stated v h = ap (λ word. wordAt t (depthCell (entriesOf word) v)) (count-word ps t p) ∙ depth-word ps t p v h
 
+  -- rating: the level lookup at the smaller of d and that depth
   pub rating-right : (v d : ℕ) → run t (rating (length t) v d) ≡ ratingOf ps v d
   unfolding answerTo
   rating-right v d = ap outcome (rating-smaller t (length t) v d) ∙ level-right v (min d (depthWord t v)) ∙ go (decLt v (length ps))

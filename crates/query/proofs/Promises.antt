@@ -18,19 +18,22 @@ module _ (t : List ℕ) (p : ℕ → Reading) (b : ℕ) (ns : List ℕ) (r : Ans
   abbrev pub Promised : Type 0
   Promised = Answers p t r × (Gives ns r × (Few b r × (Local p t r × Right means t r)))
 
-  pub promised : b ≤ 15 → r ≡ answerFrom t (listed []) (p (length t)) → Promised
+  pub promised-of : r ≡ answerTo t (p (length t)) → Promised
   unfolding answerTo
-  promised h e =
-      let q : r ≡ answerTo t (p (length t)) = e ∙ whole t b (p (length t)) (w (length t)) h in (
-        q,
+  promised-of q = (
+    q,
+    (
+      rw q (ends-run ns t (p (length t)) (n (length t))),
+      (
+        rw q (few t b (p (length t)) (w (length t))),
         (
-          rw q (ends-run ns t (p (length t)) (n (length t))),
-          (
-            rw q (few t b (p (length t)) (w (length t))),
-            (
-              λ u l s. rw l (locality t b (p (length t)) (w (length t)) u (rw q at s)) ∙ sym q,
-              λ ps d. ap outcome q ∙ right ps d,
-            ),
-          ),
+          λ u l s. rw l (locality t b (p (length t)) (w (length t)) u (rw q at s)) ∙ sym q,
+          λ ps d. ap outcome q ∙ right ps d,
         ),
-      )
+      ),
+    ),
+  )
+
+  -- as the code builds its answer up, cell by cell
+  pub promised : b ≤ 15 → r ≡ answerFrom t (listed []) (p (length t)) → Promised
+  promised h e = promised-of (e ∙ whole t b (p (length t)) (w (length t)) h)
