@@ -1,13 +1,14 @@
 -- What the questions answer where the words that they read are known: a law for each way through the steps. Assumes nothing.
 use mathlib.Core.Path.{_≡_}
 use mathlib.Core.List.{List}
-use mathlib.Core.Option.{Option, some}
+use mathlib.Core.Option.{some}
 use Prim.Native.Nat.{ℕ, _+_, _-_, _*_, _^_, _≤_, _<_}
-use Rattle.base.specs.Numbers.{Outcome, accepted, unknown, tooDeep}
-use Rattle.base.specs.Limits.{groupLimit, shapeCount, jumpRoom, microMark, depthCell, kindCell, ladposCell, orderCell, ladderCell, positionCell, shapeCell, parentCell, jumpCell, ancestorCell}
+use Rattle.base.specs.Numbers.{accepted}
+use Rattle.base.specs.Limits.{groupLimit, shapeCount, jumpRoom, microMark, kindCell, ladposCell, orderCell, ladderCell, positionCell, shapeCell, parentCell, jumpCell, ancestorCell}
+use Rattle.base.specs.Powers.{exponent}
 use Rattle.shapes.specs.Climbs.{reached, localDepth, mark}
 use Rattle.answers.specs.Reading.{run, wordAt}
-use Rattle.answers.specs.Steps.{exponent, afterClass, afterLadpos, afterAncestor, readAncestor, afterJumpDepth, fromJump, afterParentKind, afterParent, afterPosition, inGroup, afterShape, fromGroup}
+use Rattle.answers.specs.Steps.{afterClass, afterLadpos, afterAncestor, readAncestor, afterJumpDepth, fromJump, afterParentKind, afterParent, afterPosition, inGroup, afterShape, fromGroup}
 use Rattle.answers.proofs.Runs.{runs}
 
 module _ (t : List ℕ) (n d u : ℕ) where

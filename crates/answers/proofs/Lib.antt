@@ -1,7 +1,6 @@
 -- Laws of reading programs, and the bounds of the five questions.
 pub mod Locality
 pub mod Bounds
-pub mod Exponent
 pub mod ProgramAnswers
 pub mod Numbers
 pub mod Runs

@@ -1,22 +1,16 @@
 -- The five questions as reading programs on a table of any contents, `len` words long. Each word is tested as it is read, before any other use.
 -- This is the only transcription of the steps. Assumes nothing.
-use mathlib.Core.Bool.{Bool, true, false, _&&_}
-use mathlib.Core.Option.{Option}
-use Prim.Native.Nat.{ℕ, suc, _+_, _-_, _*_, _/_, _%_, _^_, min}
-use lib.Dec.{leb, ltb}
-use Rattle.base.specs.Lists.{first, below}
+use mathlib.Core.Bool.{Bool, true, false}
+use Prim.Native.Nat.{ℕ, _+_, _-_, _*_, _/_, _%_, _^_, min}
 use Rattle.base.specs.Numbers.{Outcome, accepted, unknown, tooDeep, notAbove}
 use Rattle.base.specs.Numbers.{broken as brokenTable}
 use Rattle.base.specs.Limits.{mostEntries, groupLimit, shapeCount, entriesOf, jumpRoom, tableWords, microMark, localSpan, depthCell, kindCell, ladposCell, orderCell, preCell, sizeCell, ladderCell, positionCell, shapeCell, parentCell, jumpCell, ancestorCell}
+use Rattle.base.specs.Powers.{exponent}
 use Rattle.shapes.specs.Climbs.{reached, localDepth, mark}
 use Rattle.answers.specs.Reading.{Reading, done, read, ifLe, ifLt, ifEq, ifNone, andThen}
 
 abbrev pub broken : Reading
 broken = done brokenTable
-
--- the exponent e of the largest power of two not above a 32-bit number x: 2^e ≤ x < 2^(e+1). There is none for 0
-unfoldable pub exponent : ℕ → Option ℕ
-exponent x = first (λ e. leb (2 ^ e) x && ltb x (2 ^ suc e)) (below 32 (λ e. e))
 
 -- a word that is to be the answer is an entry
 unfoldable pub afterClass : ℕ → ℕ → Reading

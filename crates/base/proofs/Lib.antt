@@ -1,4 +1,4 @@
--- Laws of the functions on lists.
+-- Laws of the functions on lists, and of the exponent.
 pub mod Arms
 pub mod Lists
 pub mod Counts
@@ -11,3 +11,4 @@ pub mod Rows
 pub mod Views
 pub mod Puts
 pub mod Measures
+pub mod Exponents

@@ -3,3 +3,4 @@ pub mod Lists
 pub mod Numbers
 pub mod Limits
 pub mod Amounts
+pub mod Powers

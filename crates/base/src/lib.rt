@@ -1,7 +1,8 @@
-// What every crate of the engine rests on: entry numbers and positions, sums and cents, the numbers of the answers, the measures of a table, the ranges of amounts.
+// What every crate of the engine rests on: entry numbers and positions, sums and cents, the numbers of the answers, the measures of a table, the ranges of amounts, powers of two.
 pub mod amounts;
 pub mod limits;
 pub mod numbers;
+pub mod powers;
 mod words;
 
 pub use words::clear;

@@ -1,29 +1,28 @@
 -- On a prepared table the way down from step 2 ends at the level ancestor. Assumes nothing.
 use mathlib.Core.Path.{_≡_, refl, sym, ap, _∙_}
-use mathlib.Core.List.{List, flatten}
-use mathlib.Core.Bool.{Bool, true, false, cond}
-use mathlib.Core.Option.{Option, none, some, Option·getD}
-use Prim.Native.Nat.{ℕ, zero, suc, _+_, _-_, _*_, _/_, _%_, _^_, _≤_, _<_}
+use mathlib.Core.List.{List}
+use mathlib.Core.Bool.{Bool, true, false}
+use mathlib.Core.Option.{some, Option·getD}
+use Prim.Native.Nat.{ℕ, suc, _+_, _-_, _/_, _%_, _^_, _≤_, _<_}
 use native.Mathlib.Omega.{arith}
-use native.Mathlib.Decide.{decLe}
-use native.Mathlib.Decide.{ℕ-discrete, decLt}
-use lib.ListN.{length, getD}
+use native.Mathlib.Decide.{ℕ-discrete, decLe}
+use lib.ListN.{length}
 use Rattle.base.specs.Numbers.{accepted}
-use Rattle.base.specs.Limits.{mostEntries, groupLimit, shapeCount, jumpRoom, microMark, kindCell, shapeCell, topMark}
+use Rattle.base.specs.Limits.{groupLimit, shapeCount, microMark, kindCell, shapeCell, topMark}
+use Rattle.base.proofs.Exponents.{exponent-iff, exponent-low, exponent-some}
 use Rattle.tree.specs.Parents.{parent, up, depth}
-use Rattle.tree.specs.Forest.{under, size, order, position}
+use Rattle.tree.specs.Forest.{under, position}
 use Rattle.shapes.specs.Walks.{walkRound, shapeNumber}
 use Rattle.shapes.specs.Climbs.{reached, localDepth, mark}
 use Rattle.tree.proofs.Climbs.{entry-some, up-in, up-from, up-first, up-add}
 use Rattle.tree.proofs.Depths.{up-depth, depth-parent}
 use Rattle.tree.proofs.Intervals.{depth-less, family-room}
 use Rattle.shapes.proofs.Rule.{shape-count}
-use Rattle.table.specs.Ladders.{ladders, ladPos}
-use Rattle.table.specs.Groups.{micro, jumpNodes, microKind, macroKind, kind}
+use Rattle.table.specs.Ladders.{ladPos}
+use Rattle.table.specs.Groups.{micro, microKind, macroKind, kind}
 use Rattle.table.specs.Preparing.{Prepared}
 use Rattle.answers.specs.Reading.{done, read, ifEq, run, wordAt}
-use Rattle.answers.specs.Steps.{exponent, fromJump, fromGroup, afterKind, ancestorAt}
-use Rattle.answers.proofs.Exponent.{exponent-iff, exponent-low, exponent-some}
+use Rattle.answers.specs.Steps.{fromJump, fromGroup, afterKind, ancestorAt}
 use Rattle.answers.proofs.Runs.{run-done, run-read, run-le, run-not-le, run-eq, run-not-eq}
 use Rattle.answers.proofs.KnownWords.{jump-known, group-known, parent-known, above-known}
 use Rattle.climbs.proofs.Ladders.{ladpos-in}
@@ -32,7 +31,7 @@ use Rattle.climbs.proofs.Jumps.{macro-jump, jumps-room}
 use Rattle.climbs.proofs.Groups.{Grouped, grouped, groups-few, root-parent}
 use Rattle.climbs.proofs.Microtrees.{root-depth, shape-small, local-self, local-climb, local-depth}
 use Rattle.climbs.proofs.OneJump.{theorem-1, observation-7}
-use Rattle.climbs.proofs.TableWords.{many, few, tree, small, depth-word, kind-word, ladpos-word, order-word, ladder-word, position-word, shape-word, parent-word, jump-depth-word, ancestor-word}
+use Rattle.climbs.proofs.TableWords.{few, tree, small, kind-word, ladpos-word, order-word, ladder-word, position-word, shape-word, parent-word, jump-depth-word, ancestor-word}
 
 -- KIND of a micro node, and of another
 module _ (ps : List ℕ) (v : ℕ) where

@@ -3,6 +3,7 @@ use mathlib.Core.Path.{_≡_, refl}
 use mathlib.Core.List.{[], _∷_, flatten, flatMap}
 use mathlib.Core.Option.{Option·elim, bind, orElse}
 use Rattle.base.specs.Lists.{each, keep, first, index, every, some?, places, padded}
+use Rattle.base.specs.Powers.{exponent}
 use Rattle.tree.specs.Parents.{entry, parent, climbWithin, depth}
 use Rattle.tree.specs.Parents.{up as climbUp}
 use Rattle.tree.specs.Forest.{plant, grow, preorder, forestSize, forestHeight, tallest, spine, pathTop}
@@ -15,7 +16,7 @@ use Rattle.table.specs.Table.{header, entrySections, laidSections, tableOf}
 use Rattle.table.specs.Preparing.{countFault, tableFault, spaceFault, callFault, refusal, preparing}
 use Rattle.answers.specs.Reading.{run, trace, ifLe, ifLt, ifEq, ifNone}
 use Rattle.answers.specs.Answers.{listed, answerTo}
-use Rattle.answers.specs.Steps.{exponent, afterClass, afterCount, opened, afterLadpos, afterAncestor, readAncestor, afterJumpDepth, fromJump, afterParentKind, afterParent, afterPosition, inGroup, afterShape, fromGroup, afterKind, ancestorAt, afterDepth, fromEntry, level}
+use Rattle.answers.specs.Steps.{afterClass, afterCount, opened, afterLadpos, afterAncestor, readAncestor, afterJumpDepth, fromJump, afterParentKind, afterParent, afterPosition, inGroup, afterShape, fromGroup, afterKind, ancestorAt, afterDepth, fromEntry, level}
 use Rattle.lines.specs.Text.{digits, row}
 use Rattle.lines.specs.Fields.{parted, value, isNumber, number, tagged, single, countOf, parentField, parentOf, asked, questionOf}
 use Rattle.lines.specs.Counter.{replyRow, answerRow, answering, judged, listing, opening, counter}

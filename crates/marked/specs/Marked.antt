@@ -8,6 +8,7 @@ use lib.ListN.{length}
 use Rattle.base.specs.Lists.{each, keep, first, index, every, some?, places, padded}
 use Rattle.base.specs.Numbers.{Outcome, accepted, count, stray, tops, loop, unknown, tooDeep}
 use Rattle.base.specs.Limits.{groupLimit, tableWords, spaceWords, topMark}
+use Rattle.base.specs.Powers.{exponent}
 use Rattle.tree.specs.Parents.{entry, parent, climbWithin, depth}
 use Rattle.tree.specs.Parents.{up as climbUp}
 use Rattle.tree.specs.Forest.{plant, grow, preorder, forestSize, forestHeight, tallest, spine, pathTop}
@@ -20,7 +21,7 @@ use Rattle.table.specs.Table.{header, entrySections, laidSections, tableOf}
 use Rattle.table.specs.Preparing.{countFault, tableFault, spaceFault, callFault, refusal, preparing}
 use Rattle.answers.specs.Reading.{run, trace, ifLe, ifLt, ifEq, ifNone}
 use Rattle.answers.specs.Answers.{listed, answerTo}
-use Rattle.answers.specs.Steps.{exponent, afterClass, afterCount, opened, afterLadpos, afterAncestor, readAncestor, afterJumpDepth, fromJump, afterParentKind, afterParent, afterPosition, inGroup, afterShape, fromGroup, afterKind, ancestorAt, afterDepth, fromEntry, level}
+use Rattle.answers.specs.Steps.{afterClass, afterCount, opened, afterLadpos, afterAncestor, readAncestor, afterJumpDepth, fromJump, afterParentKind, afterParent, afterPosition, inGroup, afterShape, fromGroup, afterKind, ancestorAt, afterDepth, fromEntry, level}
 use Rattle.answers.specs.declared.Answer.{Answer}
 
 -- what is asked, and what is said

@@ -9,10 +9,13 @@ ghost use Rattle.table.specs.Groups.{jumpNodes, jumpRecord};
 ghost use Rattle.table.specs.Ladders.{ladPos};
 ghost use Rattle.table.specs.Table.{ladderCells};
 ghost use Rattle.prepare.specs.Arrays.{OneTree, orderOf, kindsOf};
+ghost use Rattle.prepare.specs.Stages.{AncestorsEnd};
 use crate::places::RECORD_WORDS;
 use base::Node;
 use base::Position;
 use base::limits::MICRO_MARK;
+use base::powers::LargestPower;
+use base::powers::exponent;
 
 // The jump entries, in preorder: of the entries of size over 5 that lead to one jump entry, that entry stands last.
 pub(crate) fn jump_nodes(parents: &[u32], order: &[u32], kind: &[u32], cells: &mut [u32])
@@ -31,7 +34,8 @@ pub(crate) fn jump_nodes(parents: &[u32], order: &[u32], kind: &[u32], cells: &m
     }
 }
 
-// A jump entry's record, from LADPOS and LADDERS: each ancestor by one ladder from the one before.
+// A jump entry's record, from LADPOS and LADDERS: each ancestor by one ladder from the one before. The loop is bounded by a constant, so that the compiler
+// unrolls it.
 pub(crate) fn record(
     parents: &[u32],
     places: &[u32],
@@ -42,6 +46,7 @@ pub(crate) fn record(
     requires { ⌜ OneTree (now parents) × (now places ≡ below (length (now parents)) (ladPos (now parents))) × (now rungs ≡ ladderCells (now parents)) × (v .0 < length (now parents)) × (deep ≡ depth (now parents) (v .0)) ⌝ }
     ensures { λ r. ⌜ r ≡ jumpRecord (now (parents .entry)) (v .0) ⌝ }
 {
+    let end = ancestors_end(deep);
     let mut r: [u32; RECORD_WORDS] = [0; RECORD_WORDS];
     r[0] = deep;
     let mut w = v;
@@ -49,7 +54,7 @@ pub(crate) fn record(
     let mut t: u32 = 1;
     let mut e: usize = 1;
     while e < RECORD_WORDS {
-        if deep < t {
+        if end <= e {
             return r;
         }
         let place = places[w.0 as usize];
@@ -60,4 +65,14 @@ pub(crate) fn record(
         e += 1;
     }
     r
+}
+
+// The word of a record at which the ancestors of an entry of that depth end.
+fn ancestors_end(deep: u32) -> usize
+    ensures { λ r. ⌜ AncestorsEnd deep r ⌝ }
+{
+    match exponent(deep) {
+        LargestPower::None => 1,
+        LargestPower::Exponent(e) => e as usize + 2,
+    }
 }

@@ -5,7 +5,6 @@ ghost use Prim.Native.Nat.{_^_, _<_, _≤_};
 ghost use Rattle.base.specs.Limits.{Sized, jumpRoom};
 ghost use Rattle.answers.specs.Answers.{listed, answerFrom};
 ghost use Rattle.answers.specs.Steps.{afterLadpos, afterAncestor, readAncestor, afterJumpDepth, fromJump};
-use crate::power::exponent;
 use crate::power::power;
 use crate::reading::after_class;
 use crate::reading::broken;
@@ -20,6 +19,8 @@ use base::limits::LADDERS;
 use base::limits::LADPOS;
 use base::limits::RECORD_WORDS;
 use base::limits::jump_room;
+use base::powers::LargestPower;
+use base::powers::exponent;
 
 // Step 4 from a jump entry, with a list of its own, of four cells at most.
 pub(crate) fn from_jump(table: &[u32], n: u32, d: u32, jump: u32) -> Answer
@@ -48,10 +49,10 @@ fn after_jump_depth(table: &[u32], n: u32, d: u32, jump: u32, depth: u32, cells:
         return broken(cells);
     }
     let x = depth - d;
-    if x == 0 {
-        return broken(cells);
+    match exponent(x) {
+        LargestPower::None => broken(cells),
+        LargestPower::Exponent(e) => read_ancestor(table, n, jump, x, e, cells),
     }
-    read_ancestor(table, n, jump, x, exponent(x), cells)
 }
 
 // The ancestor for e, where the answer is x above the jump entry.

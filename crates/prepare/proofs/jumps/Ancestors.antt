@@ -5,7 +5,7 @@ use mathlib.Core.Option.{some, Option·getD}
 use Prim.Native.Nat.{ℕ, zero, suc, _+_, _*_, _-_, _^_, _≤_, _<_}
 use native.Mathlib.Omega.{arith}
 use native.Mathlib.Decide.{decLt}
-use native.Mathlib.Nat.{two-pow-succ, pow-le-pow-right}
+use native.Mathlib.Nat.{lt-of-not-le, two-pow-succ, pow-le-pow-right}
 use borrow.Author.Count.{below-more}
 use lib.ListN.{length, getD, set, length-set, replicate, length-replicate, getD-replicate}
 use lib.Seq.{getD-set-same, getD-set-other, ext-getD}
@@ -25,6 +25,7 @@ use Rattle.climbs.proofs.Room.{ladders-fit}
 use Rattle.climbs.proofs.SectionLengths.{ladder-cells-length}
 use Rattle.climbs.proofs.RecordWords.{jump-wide}
 use Rattle.prepare.specs.Arrays.{OneTree}
+use Rattle.prepare.specs.Stages.{AncestorsEnd}
 use Rattle.prepare.proofs.Preorder.{small}
 
 -- the words of a record
@@ -70,7 +71,7 @@ module _ {ps : List ℕ} (t : OneTree ps) (v : ℕ) (hv : v < length ps) where
     record-end h = ext-getD 0 r (jumpRecord ps v) (d .room ∙ sym (jump-wide groupLimit ps v)) (λ k b. d .words k (omega (arith, d .room)))
 
     -- no ancestor is as far up
-    pub record-stop : depth ps v < far → r ≡ jumpRecord ps v
+    record-stop : depth ps v < far → r ≡ jumpRecord ps v
     record-stop h = ext-getD 0 r (jumpRecord ps v) (d .room ∙ sym (jump-wide groupLimit ps v)) (λ k b. go k (omega (arith, d .room)) (decLt k e))
       where
         past : (k : ℕ) → e ≤ k → k < recordWords → getD (jumpRecord ps v) k 0 ≡ 0
@@ -82,6 +83,14 @@ module _ {ps : List ℕ} (t : OneTree ps) (v : ℕ) (hv : v < length ps) where
         go : (k : ℕ) → k < recordWords → Dec (k < e) → getD r k 0 ≡ getD (jumpRecord ps v) k 0
         go k l (yes b) = d .words k b
         go k l (no b) = d .zeros k (omega arith) l ∙ sym (past k (omega arith) l)
+
+    -- before the ancestors' end there is a next one, and from it on all are laid
+    module _ (deep : ℕ) (q : deep ≡ depth ps v) (end : ℕ) (ends : AncestorsEnd deep end) where
+      pub record-further : e < end → far ≤ depth ps v
+      record-further h = omega (arith, q, d .far, ends .ancestors (e - 1) .0 (omega (arith, d .started)))
+
+      pub record-whole : end ≤ e → r ≡ jumpRecord ps v
+      record-whole h = record-stop (lt-of-not-le (λ b. omega (arith, d .started, ends .ancestors (e - 1) .1 (omega (arith, q, d .far)))))
 
     -- one ancestor further, from LADPOS and LADDERS
     module _ (b : far ≤ depth ps v) where

@@ -1,17 +1,19 @@
 -- The exponent of a 32-bit number: the one e with 2^e ≤ x < 2^(e+1), and none for 0 alone. Assumes nothing.
-use mathlib.Core.Path.{_≡_, refl, sym, _∙_}
+use mathlib.Core.Path.{_≡_, refl, sym, ap, _∙_}
 use mathlib.Core.Logic.{_↔_}
 use mathlib.Core.Bool.{Bool, true, false, _&&_}
-use mathlib.Core.Option.{none, some, Option·none-ne-some}
+use mathlib.Core.Option.{Option, none, some, Option·none-ne-some}
 use Prim.Native.Nat.{ℕ, suc, _+_, _^_, _≤_, _<_}
 use native.Mathlib.Omega.{arith}
+use native.Mathlib.Nat.{le-of-suc-le-suc, lt-of-not-le}
 use native.Mathlib.Decide.{ℕ-discrete, decLt}
 use lib.Count.{leading-top}
 use lib.Dec.{leb, ltb}
 use lib.Pow.{pow-mono, pow-pos}
 use borrow.Author.Tests.{leb-true, ltb-true, le-leb, lt-leb, lt-ltb, le-ltb}
+use Rattle.base.specs.Powers.{exponent, exponentOf}
+use Rattle.base.specs.declared.powers.LargestPower.{LargestPower}
 use Rattle.base.proofs.Lists.{clash, first-some, first-is, none-first}
-use Rattle.answers.specs.Steps.{exponent}
 
 -- the test of an exponent
 abbrev fits : ℕ → ℕ → Bool
@@ -69,6 +71,16 @@ exponent-low k x e b h q =
     go : Dec (e < k) → 2 ^ e ≤ x → e < k
     go (yes c) low = c
     go (no c) low = absurd (omega (arith, pow-mono {i = k} {j = e} (omega arith)))
+
+-- what an answer says, taken apart
+pub exponent-told : {o : Option ℕ} {r p : LargestPower} → exponentOf r ≡ o → r ≡ p → o ≡ exponentOf p
+exponent-told q t = sym q ∙ ap exponentOf t
+
+-- the powers not above a number are those up to its exponent
+pub exponent-largest : (x e k : ℕ) → x < 2 ^ 32 → exponent x ≡ some e → (k ≤ e) ↔ (2 ^ k ≤ x)
+exponent-largest x e k small q =
+    let (lo, hi) = exponent-iff x e small .0 q in
+    (λ h. omega (arith, pow-mono {i = k} {j = e} h), λ h. le-of-suc-le-suc (lt-of-not-le (λ b. omega (arith, pow-mono {i = suc e} {j = k} b))))
 
 pub exponent-zero : (x : ℕ) → x ≡ 0 → exponent x ≡ none
 exponent-zero x z = exponent-none x (omega arith) .1 z
