@@ -62,25 +62,18 @@ exponent-none x small = (
         let (e, s) = exponent-some x (omega arith) small in
         absurd (Option·none-ne-some e (sym q ∙ s))
 
--- the power is not above the number, and the exponent of a number below 2^k is below k
-pub exponent-low : (k x e : ℕ) → k ≤ 32 → x < 2 ^ k → exponent x ≡ some e → (e < k) × (2 ^ e ≤ x)
-exponent-low k x e b h q =
-    let r = exponent-iff x e (omega (arith, pow-mono {i = k} {j = 32} b)) .0 q in
-    (go (decLt e k) (r .0), r .0)
-  where
-    go : Dec (e < k) → 2 ^ e ≤ x → e < k
-    go (yes c) low = c
-    go (no c) low = absurd (omega (arith, pow-mono {i = k} {j = e} (omega arith)))
-
--- what an answer says, taken apart
-pub exponent-told : {o : Option ℕ} {r p : LargestPower} → exponentOf r ≡ o → r ≡ p → o ≡ exponentOf p
-exponent-told q t = sym q ∙ ap exponentOf t
-
 -- the powers not above a number are those up to its exponent
 pub exponent-largest : (x e k : ℕ) → x < 2 ^ 32 → exponent x ≡ some e → (k ≤ e) ↔ (2 ^ k ≤ x)
 exponent-largest x e k small q =
     let (lo, hi) = exponent-iff x e small .0 q in
     (λ h. omega (arith, pow-mono {i = k} {j = e} h), λ h. le-of-suc-le-suc (lt-of-not-le (λ b. omega (arith, pow-mono {i = suc e} {j = k} b))))
 
-pub exponent-zero : (x : ℕ) → x ≡ 0 → exponent x ≡ none
-exponent-zero x z = exponent-none x (omega arith) .1 z
+-- the power is not above the number, and the exponent of a number below 2^k is below k
+pub exponent-low : (k x e : ℕ) → k ≤ 32 → x < 2 ^ k → exponent x ≡ some e → (e < k) × (2 ^ e ≤ x)
+exponent-low k x e b h q =
+    let small : x < 2 ^ 32 = omega (arith, pow-mono {i = k} {j = 32} b) in
+    (lt-of-not-le (λ c. omega (arith, exponent-largest x e k small q .0 c)), exponent-largest x e e small q .0 (omega arith))
+
+-- where an answer is p, the definition gives what p says
+pub exponent-told : (x : ℕ) {r p : LargestPower} → exponentOf r ≡ exponent x → r ≡ p → exponent x ≡ exponentOf p
+exponent-told x q t = sym q ∙ ap exponentOf t

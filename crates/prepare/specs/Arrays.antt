@@ -6,6 +6,7 @@ use Prim.Native.Nat.{ℕ, _+_, _-_, _≤_, _<_}
 use lib.ListN.{length, getD}
 use Rattle.base.specs.Limits.{mostEntries, groupLimit, topMark}
 use Rattle.base.specs.Lists.{below}
+use Rattle.base.specs.Powers.{exponent}
 use Rattle.tree.specs.Parents.{parent, up, depth}
 use Rattle.tree.specs.Forest.{size, order, position, longChild}
 use Rattle.tree.specs.Faults.{Tree}
@@ -47,6 +48,10 @@ abovesOf ps = byPosition ps (abovePosition ps)
 -- KIND by entry
 abbrev pub kindsOf : List ℕ → List ℕ
 kindsOf ps = below (length ps) (kind groupLimit ps)
+
+-- the word of a record behind its ancestors, by the entry's depth: the ancestor for e stands in word e + 1, and the last of them is for the exponent of the depth
+unfoldable pub ancestorsEnd : ℕ → ℕ
+ancestorsEnd deep = Option·elim (exponent deep) 1 (λ e. e + 2)
 
 -- the ancestors of v, the nearest last, in the words before a place, and all else as it was
 pub record Risen (ps : List ℕ) (v place count : ℕ) (old new : List ℕ) : Type 0 where

@@ -1,9 +1,8 @@
 -- What stands in the working space and in the table while the table is filled. In the space, each region has an array by preorder position.
 -- Assumes nothing.
 use mathlib.Core.Path.{_≡_}
-use mathlib.Core.Logic.{_↔_}
 use mathlib.Core.List.{List}
-use Prim.Native.Nat.{ℕ, _+_, _*_, _^_, _≤_, _<_}
+use Prim.Native.Nat.{ℕ, _+_, _*_, _≤_}
 use lib.ListN.{length}
 use Rattle.base.specs.Lists.{below, view}
 use Rattle.base.specs.Limits.{spaceWords, depthStart, kindStart, ladposStart, orderStart, preStart, sizeStart, laddersStart, groupsStart}
@@ -71,8 +70,3 @@ pub record Reached (ps : List ℕ) (depthAt ladposAt laddersAt : ℕ) (table : L
   pub depths : view depthAt (length ps) table ≡ below (length ps) (depth ps)
   pub places : view ladposAt (length ps) table ≡ below (length ps) (ladPos ps)
   pub rungs : view laddersAt (2 * length ps) table ≡ ladderCells ps
-
--- the word of a record at which the ancestors end, by the entry's depth: the ancestor for e stands in word e + 1, and there is one just where 2^e is not above the depth
-pub record AncestorsEnd (deep end : ℕ) : Type 0 where
-  pub started : 1 ≤ end
-  pub ancestors : (e : ℕ) → (e + 1 < end) ↔ (2 ^ e ≤ deep)

@@ -8,8 +8,7 @@ ghost use Rattle.tree.specs.Parents.{depth};
 ghost use Rattle.table.specs.Groups.{jumpNodes, jumpRecord};
 ghost use Rattle.table.specs.Ladders.{ladPos};
 ghost use Rattle.table.specs.Table.{ladderCells};
-ghost use Rattle.prepare.specs.Arrays.{OneTree, orderOf, kindsOf};
-ghost use Rattle.prepare.specs.Stages.{AncestorsEnd};
+ghost use Rattle.prepare.specs.Arrays.{OneTree, orderOf, kindsOf, ancestorsEnd};
 use crate::places::RECORD_WORDS;
 use base::Node;
 use base::Position;
@@ -34,8 +33,8 @@ pub(crate) fn jump_nodes(parents: &[u32], order: &[u32], kind: &[u32], cells: &m
     }
 }
 
-// A jump entry's record, from LADPOS and LADDERS: each ancestor by one ladder from the one before. The loop is bounded by a constant, so that the compiler
-// unrolls it.
+// A jump entry's record, from LADPOS and LADDERS: each ancestor by one ladder from the one before. The ancestors' end is tested in each turn and the loop
+// bounded by a constant, so that the compiler unrolls it.
 pub(crate) fn record(
     parents: &[u32],
     places: &[u32],
@@ -67,9 +66,9 @@ pub(crate) fn record(
     r
 }
 
-// The word of a record at which the ancestors of an entry of that depth end.
+// The word behind the ancestors in the record of an entry of that depth.
 fn ancestors_end(deep: u32) -> usize
-    ensures { λ r. ⌜ AncestorsEnd deep r ⌝ }
+    ensures { λ r. ⌜ r ≡ ancestorsEnd deep ⌝ }
 {
     match exponent(deep) {
         LargestPower::None => 1,

@@ -5,7 +5,6 @@ ghost use Prim.Native.Nat.{_^_, _<_, _≤_};
 ghost use Rattle.base.specs.Limits.{Sized, jumpRoom};
 ghost use Rattle.answers.specs.Answers.{listed, answerFrom};
 ghost use Rattle.answers.specs.Steps.{afterLadpos, afterAncestor, readAncestor, afterJumpDepth, fromJump};
-use crate::power::power;
 use crate::reading::after_class;
 use crate::reading::broken;
 use crate::reading::read;
@@ -67,7 +66,7 @@ fn read_ancestor(table: &[u32], n: u32, jump: u32, x: u32, e: u32, cells: Cells)
     );
     let w = Node(got.word);
     let more = got.cells;
-    after_ancestor(table, n, x - power(e), w, more)
+    after_ancestor(table, n, x - (1 << e), w, more)
 }
 
 // LADPOS of w.

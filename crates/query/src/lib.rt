@@ -4,7 +4,6 @@ mod group;
 mod joining;
 mod jump;
 mod look;
-mod power;
 mod reading;
 mod relate;
 

@@ -1,16 +1,20 @@
 -- A jump entry's record: the ancestor twice as far up stands in the ladder of the last one. Assumes nothing.
 use mathlib.Core.Path.{_≡_, refl, sym, ap, _∙_}
+use mathlib.Core.Logic.{_↔_}
 use mathlib.Core.List.{List, flatten}
-use mathlib.Core.Option.{some, Option·getD}
+use mathlib.Core.Option.{Option, none, some, Option·getD, Option·elim}
 use Prim.Native.Nat.{ℕ, zero, suc, _+_, _*_, _-_, _^_, _≤_, _<_}
 use native.Mathlib.Omega.{arith}
 use native.Mathlib.Decide.{decLt}
 use native.Mathlib.Nat.{lt-of-not-le, two-pow-succ, pow-le-pow-right}
 use borrow.Author.Count.{below-more}
+use lib.Pow.{pow-pos}
 use lib.ListN.{length, getD, set, length-set, replicate, length-replicate, getD-replicate}
 use lib.Seq.{getD-set-same, getD-set-other, ext-getD}
 use Rattle.base.specs.Limits.{mostEntries, groupLimit, recordWords}
 use Rattle.base.specs.Lists.{below}
+use Rattle.base.specs.Powers.{exponent}
+use Rattle.base.proofs.Exponents.{exponent-none, exponent-largest}
 use Rattle.base.proofs.Lists.{below-at, each-length}
 use Rattle.base.proofs.Joins.{padded-in}
 use Rattle.tree.specs.Parents.{up, depth}
@@ -24,8 +28,7 @@ use Rattle.climbs.proofs.Ladders.{ladpos-in, lemma-5}
 use Rattle.climbs.proofs.Room.{ladders-fit}
 use Rattle.climbs.proofs.SectionLengths.{ladder-cells-length}
 use Rattle.climbs.proofs.RecordWords.{jump-wide}
-use Rattle.prepare.specs.Arrays.{OneTree}
-use Rattle.prepare.specs.Stages.{AncestorsEnd}
+use Rattle.prepare.specs.Arrays.{OneTree, ancestorsEnd}
 use Rattle.prepare.proofs.Preorder.{small}
 
 -- the words of a record
@@ -36,6 +39,15 @@ record-first ps v = refl
 record-next : (ps : List ℕ) (v k : ℕ) → k < 20 → getD (jumpRecord ps v) (suc k) 0 ≡ Option·getD (up ps (2 ^ k) v) 0
 unfolding jumpRecord
 record-next ps v k h = below-at 20 (λ e. Option·getD (up ps (2 ^ e) v) 0) 0 k h
+
+-- there is an ancestor just where its power of two is not above the depth
+has-ancestor : (deep e : ℕ) → deep < 2 ^ 32 → (e + 1 < ancestorsEnd deep) ↔ (2 ^ e ≤ deep)
+unfolding ancestorsEnd Option·elim
+has-ancestor deep e small = go (exponent deep) refl
+  where
+    go : (o : Option ℕ) → exponent deep ≡ o → (e + 1 < Option·elim (exponent deep) 1 (λ k. k + 2)) ↔ (2 ^ e ≤ deep)
+    go none q = rw q (λ h. absurd (omega arith), λ h. absurd (omega (arith, exponent-none deep small .0 q, pow-pos e)))
+    go (some k) q = let p = exponent-largest deep k e small q in rw q (λ h. p .0 (omega arith), λ h. omega (arith, p .1 h))
 
 -- the words before e, and zeros behind. The next ancestor is t climbs above v, and s above w
 pub record RecordBefore (ps : List ℕ) (v : ℕ) (r : List ℕ) (w s t e : ℕ) : Type 0 where
@@ -85,12 +97,17 @@ module _ {ps : List ℕ} (t : OneTree ps) (v : ℕ) (hv : v < length ps) where
         go k l (no b) = d .zeros k (omega arith) l ∙ sym (past k (omega arith) l)
 
     -- before the ancestors' end there is a next one, and from it on all are laid
-    module _ (deep : ℕ) (q : deep ≡ depth ps v) (end : ℕ) (ends : AncestorsEnd deep end) where
+    module _ (deep : ℕ) (q : deep ≡ depth ps v) (end : ℕ) (is : end ≡ ancestorsEnd deep) where
+      next-iff : (e < end) ↔ (far ≤ depth ps v)
+      next-iff =
+          let (has, ends) = has-ancestor deep (e - 1) (omega (arith, q, depth-small)) in
+          (λ h. omega (arith, q, d .far, has (omega (arith, is, d .started))), λ h. omega (arith, is, d .started, ends (omega (arith, q, d .far))))
+
       pub record-further : e < end → far ≤ depth ps v
-      record-further h = omega (arith, q, d .far, ends .ancestors (e - 1) .0 (omega (arith, d .started)))
+      record-further = next-iff .0
 
       pub record-whole : end ≤ e → r ≡ jumpRecord ps v
-      record-whole h = record-stop (lt-of-not-le (λ b. omega (arith, d .started, ends .ancestors (e - 1) .1 (omega (arith, q, d .far)))))
+      record-whole h = record-stop (lt-of-not-le (λ b. omega (arith, next-iff .1 b)))
 
     -- one ancestor further, from LADPOS and LADDERS
     module _ (b : far ≤ depth ps v) where

@@ -5,7 +5,7 @@ use Prim.Native.Nat.{ℕ, _-_, _^_, _≤_, _<_}
 use native.Mathlib.Omega.{arith}
 use lib.Count.{leadingZeros, leading-top}
 use Rattle.base.specs.Powers.{exponent}
-use Rattle.base.proofs.Exponents.{exponent-iff, exponent-zero}
+use Rattle.base.proofs.Exponents.{exponent-iff, exponent-none}
 use Rattle.base.proofs.powers.exponent.Statement.{statement}
 use Rattle.base.proofs.powers.exponent.Tie as tie
 
@@ -19,6 +19,6 @@ pub exponent-spec : {M : Type 1} → statement M
 exponent-spec =
     tie.close
     (tie.spec
-    (λ c. sym (exponent-zero _ (omega (arith, c .if1 .taken))))
+    (λ c. sym (exponent-none (c .before .args .x) (c .before .fits .x .fits) .1 (omega (arith, c .if1 .taken))))
     (λ c. by-zeros (c .before .args .x) (omega (arith, c .if1 .left)) (c .before .fits .x .fits) .0)
     (λ c. sym (by-zeros (c .before .args .x) (omega (arith, c .if1 .left)) (c .before .fits .x .fits) .1)))
