@@ -41,7 +41,7 @@ unfolding jumpRecord
 record-next ps v k h = below-at 20 (λ e. Option·getD (up ps (2 ^ e) v) 0) 0 k h
 
 -- there is an ancestor just where its power of two is not above the depth
-has-ancestor : (deep e : ℕ) → deep < 2 ^ 32 → (e + 1 < ancestorsEnd deep) ↔ (2 ^ e ≤ deep)
+pub has-ancestor : (deep e : ℕ) → deep < 2 ^ 32 → (e + 1 < ancestorsEnd deep) ↔ (2 ^ e ≤ deep)
 unfolding ancestorsEnd Option·elim
 has-ancestor deep e small = go (exponent deep) refl
   where

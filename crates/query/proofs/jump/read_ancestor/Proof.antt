@@ -11,6 +11,7 @@ use Rattle.query.proofs.Programs.{steps}
 use Rattle.query.proofs.jump.read_ancestor.Statement.{statement}
 use Rattle.query.proofs.jump.read_ancestor.Tie as tie
 
+-- a shift of 1 by e
 power : (e : ℕ) → e < 20 → (1 * 2 ^ e) % 2 ^ 32 ≡ 2 ^ e
 power e h = shl-exact 1 e 32 (lit< tt) (omega arith) ∙ one-mul _
 
