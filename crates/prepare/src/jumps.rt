@@ -34,7 +34,7 @@ pub(crate) fn jump_nodes(parents: &[u32], order: &[u32], kind: &[u32], cells: &m
 }
 
 // A jump entry's record, from LADPOS and LADDERS: each ancestor by one ladder from the one before. The ancestors' end is tested in each turn and the loop
-// bounded by a constant, so that the compiler unrolls it.
+// bounded by a constant, so that the compiler unrolls it whole.
 pub(crate) fn record(
     parents: &[u32],
     places: &[u32],
