@@ -38,6 +38,14 @@ price-right ps t text v d sum p =
     ∙ ap (λ w. sheetPrice w (bandsOn t d text) sum (ratingOf ps v d)) (check-right ps t p d text)
     ∙ ap (λ l. sheetPrice (verdict (depthsOf ps) d text) (bandsIn (sheetOf l d text)) sum (ratingOf ps v d)) (depths-right ps t p)
 
+-- by a good sheet an entry's price is that of its class by the sheet's bands
+pub good-price : (ps text : List ℕ) (v d : ℕ) (sum : ℤ) (u : ℕ) (g : Good (depthsOf ps) d text) → ratingOf ps v d ≡ accepted u → priceOn ps text v d sum ≡ classPrice (g .bands) sum u
+unfolding priceOn
+good-price ps text v d sum u g e =
+    ap (sheetPrice (verdict (depthsOf ps) d text) (bandsIn (sheetOf (depthsOf ps) d text)) sum) e
+    ∙ price-found (verdict (depthsOf ps) d text) (bandsIn (sheetOf (depthsOf ps) d text)) sum (accepted u) refl (ap (λ w. w .number) (good-verdict (depthsOf ps) d text g))
+    ∙ ap (λ s. classPrice (bandsIn s) sum u) (g .lines)
+
 -- "Each accepted sheet then prices every legal sum .. at the rate of the band that holds it": a sheet that the check accepts on a table prepared from a list gives every entry
 -- and every legal sum number 0, the entry's class, and the cents at the rate of the one band of that class that holds the sum's size
 pub record Priced (ps t text : List ℕ) (v d : ℕ) (sum : ℤ) : Type 0 where
@@ -55,7 +63,6 @@ module _ (ps t text : List ℕ) (v d : ℕ) (sum : ℤ) (p : Prepared ps t) (kno
   good = accepted-good (depthsOf ps) d text .0 (sym (ap (λ w. w .number) (check-right ps t p d text)) ∙ ok)
 
   pub accepted-prices : Priced ps t text v d sum
-  unfolding priceOn
   accepted-prices =
       let (u, c) = has-class ps (small ps t p) (tree ps t p) v d known in
       let covered = covered-iff ps d u .1 (rating-depth ps (small ps t p) (tree ps t p) v d u c) in
@@ -70,9 +77,7 @@ module _ (ps t text : List ℕ) (v d : ℕ) (sum : ℤ) (p : Prepared ps t) (kno
         found = e;
         priced =
             price-right ps t text v d sum p
-            ∙ ap (sheetPrice (verdict (depthsOf ps) d text) (bandsIn (sheetOf (depthsOf ps) d text)) sum) (rating-class ps (small ps t p) (tree ps t p) v d u c)
-            ∙ price-found (verdict (depthsOf ps) d text) (bandsIn (sheetOf (depthsOf ps) d text)) sum (accepted u) refl (ap (λ w. w .number) (good-verdict (depthsOf ps) d text good))
-            ∙ ap (λ s. classPrice (bandsIn s) sum u) (good .lines)
+            ∙ good-price ps text v d sum u good (rating-class ps (small ps t p) (tree ps t p) v d u c)
             ∙ class-held (good .bands) sum u legal b e;
       }
 

@@ -1,6 +1,7 @@
 // The premium of a sum insured by a sheet with bands: the class by the rating lookup, the rate of the band that holds the sum's size, and the cents.
 mod prices;
 
+pub use prices::SheetPrice;
 ghost use mathlib.Core.Path.{_≡_};
 ghost use mathlib.Core.List.{[], _∷_};
 ghost use lib.ListN.{set};
@@ -8,7 +9,6 @@ ghost use Rattle.answers.specs.Answers.{answerWords};
 ghost use Rattle.answers.specs.Promises.{Gives, Few};
 ghost use Rattle.pricing.specs.Quotes.{quoted, moneyOf, priceTo, priceOn};
 ghost use Rattle.pricing.specs.Promises.{Local, Right, Quotation, QuotationWords};
-use crate::prices::SheetPrice;
 use crate::prices::by_sheet;
 use crate::prices::by_text;
 use answers::ANSWER_WORDS;

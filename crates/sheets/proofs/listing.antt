@@ -1,4 +1,3 @@
 -- Laws of the module `listing`.
 pub mod Tests
 pub mod Turns
-pub mod Sound

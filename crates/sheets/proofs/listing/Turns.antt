@@ -17,6 +17,7 @@ use Rattle.lines.specs.Bands.{bandLine}
 use Rattle.lines.proofs.Parts.{parted-some}
 use Rattle.lines.proofs.Searches.{next-same, next-place}
 use Rattle.lines.proofs.WholeLines.{rest-line, rest-cut, rest-none}
+use Rattle.sheets.proofs.Readings.{reading-line}
 use Rattle.sheets.specs.Texts.{bad, whole, lineBand, reading, sheetOf}
 use Rattle.sheets.specs.Keys.{Stored}
 use Rattle.sheets.proofs.keys.Storing.{stored-none}
@@ -61,12 +62,6 @@ module _ (depths : List ℕ) (d k : ℕ) (text : List ℕ) (at : ℕ) where
 
 -- what the lines left say
 module _ (depths : List ℕ) (d : ℕ) (bs : List Band) where
-  pub reading-line : (l m : List ℕ) (ls : List (List ℕ))
-      → reading depths d bs (l ∷ m ∷ ls) ≡ Option·elim (lineBand depths d (suc (length bs)) l) (bad (suc (length bs))) (λ b. reading depths d (bs ++ (b ∷ [])) (m ∷ ls))
-  unfolding reading
-  reading-line [] m ls = refl
-  reading-line (x ∷ l) m ls = refl
-
   module _ (l rest : List ℕ) where
     abbrev behind : List (List ℕ)
     behind = parted lineFeed rest
@@ -74,7 +69,7 @@ module _ (depths : List ℕ) (d : ℕ) (bs : List Band) where
     split : reading depths d bs (l ∷ behind) ≡ Option·elim (lineBand depths d (suc (length bs)) l) (bad (suc (length bs))) (λ b. reading depths d (bs ++ (b ∷ [])) behind)
     split =
         let (m, ls, e) = parted-some lineFeed rest in
-        rw e (reading-line l m ls)
+        rw e (reading-line depths d bs l m ls)
 
     reading-bad : none ≡ lineBand depths d (suc (length bs)) l → reading depths d bs (l ∷ behind) ≡ bad (suc (length bs))
     unfolding Option·elim

@@ -3,7 +3,7 @@ use mathlib.Core.Path.{refl, sym, ap}
 use native.Mathlib.Omega.{arith}
 use borrow.Author.Needs.{needs}
 use Rattle.sheets.specs.Verdicts.{judged}
-use Rattle.sheets.proofs.listing.Sound.{whole-sound}
+use Rattle.sheets.proofs.Readings.{whole-sound}
 use Rattle.sheets.proofs.judging.judge_lines.Statement.{statement}
 use Rattle.sheets.proofs.judging.judge_lines.Tie as tie
 

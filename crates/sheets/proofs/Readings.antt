@@ -1,4 +1,4 @@
--- The bands of a sheet without a bad line are such as a line may state. Assumes nothing.
+-- Laws of `specs/Texts`: a line more, and the bands of a sheet without a bad line, which are such as a line may state. Assumes nothing.
 use mathlib.Core.Path.{_≡_, refl, sym, ap, _∙_}
 use mathlib.Core.List.{List, [], _∷_, _++_}
 use mathlib.Core.Bool.{Bool, true, false, cond}
@@ -15,17 +15,22 @@ use Rattle.lines.specs.Fields.{parted}
 use Rattle.lines.specs.Bands.{bandLine}
 use Rattle.lines.proofs.Digits.{every-more}
 use Rattle.sheets.specs.Texts.{Sheet, bad, whole, lineBand, reading, sheetOf, bandsIn}
-use Rattle.sheets.proofs.listing.Turns.{reading-line}
 
 isWhole : Sheet → Bool
 isWhole (bad k) = false
 isWhole (whole bs) = true
 
-bad-whole : {A : Type 0} (k : ℕ) (bs : List Band) → bad k ≡ whole bs → A
+pub bad-whole : {A : Type 0} (k : ℕ) (bs : List Band) → bad k ≡ whole bs → A
 unfolding isWhole
 bad-whole k bs e = clash (ap isWhole e)
 
 module _ (depths : List ℕ) (d : ℕ) where
+  pub reading-line : (bs : List Band) (l m : List ℕ) (ls : List (List ℕ))
+      → reading depths d bs (l ∷ m ∷ ls) ≡ Option·elim (lineBand depths d (suc (length bs)) l) (bad (suc (length bs))) (λ b. reading depths d (bs ++ (b ∷ [])) (m ∷ ls))
+  unfolding reading
+  reading-line bs [] m ls = refl
+  reading-line bs (x ∷ l) m ls = refl
+
   line-sound : (k : ℕ) (line : List ℕ) (b : Band) → lineBand depths d k line ≡ some b → isBand depths d b ≡ true
   unfolding lineBand bind
   line-sound k line b e = few (leb k mostLines) e
@@ -47,7 +52,7 @@ module _ (depths : List ℕ) (d : ℕ) where
   reading-sound [] bs cs h e = ap (every (isBand depths d)) (sym (ap bandsIn e)) ∙ h
   reading-sound ([] ∷ []) bs cs h e = ap (every (isBand depths d)) (sym (ap bandsIn e)) ∙ h
   reading-sound ((x ∷ l) ∷ []) bs cs h e = bad-whole (suc (length bs)) cs e
-  reading-sound (l ∷ m ∷ ls) bs cs h e = go (lineBand depths d (suc (length bs)) l) refl (sym (reading-line depths d bs l m ls) ∙ e) (λ b. reading-sound (m ∷ ls) (bs ++ (b ∷ [])) cs)
+  reading-sound (l ∷ m ∷ ls) bs cs h e = go (lineBand depths d (suc (length bs)) l) refl (sym (reading-line bs l m ls) ∙ e) (λ b. reading-sound (m ∷ ls) (bs ++ (b ∷ [])) cs)
     where
       go : (o : Option Band) → lineBand depths d (suc (length bs)) l ≡ o → Option·elim o (bad (suc (length bs))) (λ b. reading depths d (bs ++ (b ∷ [])) (m ∷ ls)) ≡ whole cs
           → ((b : Band) → every (isBand depths d) (bs ++ (b ∷ [])) ≡ true → reading depths d (bs ++ (b ∷ [])) (m ∷ ls) ≡ whole cs → every (isBand depths d) cs ≡ true) → every (isBand depths d) cs ≡ true

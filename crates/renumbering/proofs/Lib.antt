@@ -1,0 +1,10 @@
+-- Why another numbering changes no class and no premium.
+pub mod Lists
+pub mod Numbers
+pub mod Climbs
+pub mod Acceptance
+pub mod Meanings
+pub mod Bands
+pub mod Sheets
+pub mod Prices
+pub mod Theorems

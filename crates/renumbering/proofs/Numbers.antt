@@ -1,0 +1,95 @@
+-- Laws of a renumbering: it is one to one on all numbers, and the way back is one too; so two lists of one tree are so both ways, and every list has its renumbered list. Assumes nothing.
+use mathlib.Core.Path.{_≡_, sym, ap, subst, _∙_}
+use mathlib.Core.List.{List}
+use mathlib.Core.Bool.{Bool}
+use Prim.Native.Nat.{ℕ, _≤_, _<_}
+use native.Mathlib.Omega.{arith}
+use native.Mathlib.Decide.{ℕ-discrete, decLt}
+use lib.ListN.{length}
+use lib.Dec.{eqb}
+use borrow.Author.Tests.{eq-eqb, ne-eqb}
+use Rattle.base.specs.Lists.{below}
+use Rattle.base.proofs.Lists.{below-at, each-length}
+use Rattle.tree.specs.Parents.{word}
+use Rattle.renumbering.specs.Numbering.{Renumbering, Renumbered}
+
+module _ (n : ℕ) (r : ℕ → ℕ) (p : Renumbering n r) where
+  -- what has a new number below n is an entry
+  pub old-in : (v : ℕ) → r v < n → v < n
+  old-in v h = go (decLt v n)
+    where
+      go : Dec (v < n) → v < n
+      go (yes a) = a
+      go (no a) = omega (arith, p .others v (omega arith))
+
+  pub injective : (u v : ℕ) → r u ≡ r v → u ≡ v
+  injective u v e = go (decLt u n) (decLt v n)
+    where
+      go : Dec (u < n) → Dec (v < n) → u ≡ v
+      go (yes a) (yes b) = p .one-one u v a b e
+      go (yes a) (no b) = absurd (omega (arith, p .within u a, p .others v (omega arith)))
+      go (no a) (yes b) = absurd (omega (arith, p .within v b, p .others u (omega arith)))
+      go (no a) (no b) = omega (arith, p .others u (omega arith), p .others v (omega arith))
+
+  pub same-test : (u v : ℕ) → eqb (r u) (r v) ≡ eqb u v
+  same-test u v = go (ℕ-discrete u v)
+    where
+      go : Dec (u ≡ v) → eqb (r u) (r v) ≡ eqb u v
+      go (yes e) = eq-eqb (r u) (r v) (ap r e) ∙ sym (eq-eqb u v e)
+      go (no e) = ne-eqb (r u) (r v) (λ q. e (injective u v q)) ∙ sym (ne-eqb u v e)
+
+  -- the number of which w is the new one
+  oldOf : (w : ℕ) → Dec (w < n) → ℕ
+  oldOf w (yes h) = p .onto w h .0
+  oldOf w (no h) = w
+
+  pub old : ℕ → ℕ
+  old w = oldOf w (decLt w n)
+
+  pub new-old : (w : ℕ) → r (old w) ≡ w
+  unfolding old oldOf
+  new-old w = go (decLt w n)
+    where
+      go : (b : Dec (w < n)) → r (oldOf w b) ≡ w
+      go (yes h) = p .onto w h .2
+      go (no h) = p .others w (omega arith)
+
+  pub old-new : (v : ℕ) → old (r v) ≡ v
+  old-new v = injective (old (r v)) v (new-old (r v))
+
+  pub old-below : (w : ℕ) → w < n → old w < n
+  old-below w h = old-in (old w) (omega (arith, new-old w))
+
+  pub back : Renumbering n old
+  back = record {
+    within = old-below;
+    one-one = λ u v a b e. sym (new-old u) ∙ ap r e ∙ new-old v;
+    onto = λ w h. (r w, p .within w h, old-new w);
+    others = λ v h. injective (old v) v (new-old v ∙ sym (p .others v h));
+  }
+
+-- two lists of one tree are so both ways
+module _ (r : ℕ → ℕ) (ps qs : List ℕ) (e : Renumbered r ps qs) where
+  abbrev pub way-back : ℕ → ℕ
+  way-back = old (length ps) r (e .numbers)
+
+  pub flipped : Renumbered way-back qs ps
+  flipped = record {
+    numbers = subst (λ n. Renumbering n way-back) (sym (e .size)) (back (length ps) r (e .numbers));
+    size = sym (e .size);
+    words = λ w h.
+        let k : way-back w < length ps = old-below (length ps) r (e .numbers) w (omega (arith, e .size)) in
+        sym (old-new (length ps) r (e .numbers) (word ps (way-back w))) ∙ ap way-back (sym (e .words (way-back w) k) ∙ ap (word qs) (new-old (length ps) r (e .numbers) w));
+  }
+
+-- every list has its renumbered list
+pub every-list : (r : ℕ → ℕ) (ps : List ℕ) → Renumbering (length ps) r → (qs : List ℕ) × Renumbered r ps qs
+every-list r ps p =
+    let old : ℕ → ℕ = old (length ps) r p in (
+      below (length ps) (λ w. r (word ps (old w))),
+      record {
+        numbers = p;
+        size = each-length (length ps) 0 (λ w. r (word ps (old w)));
+        words = λ v h. below-at (length ps) (λ w. r (word ps (old w))) 0 (r v) (p .within v h) ∙ ap (λ x. r (word ps x)) (old-new (length ps) r p v);
+      },
+    )

@@ -1,0 +1,1 @@
+// One tree under another office's numbering: definitions and theorems, no functions.

@@ -1,0 +1,3 @@
+-- What two offices are told of one barn.
+pub mod Offices
+pub mod Promises
