@@ -151,3 +151,15 @@ pub fn make_text(
     let count = write(text, &lines, m, odd, seed);
     change(kind, text, count, next(seed))
 }
+
+// The text of m lines as they are, in an order that the seed gives. Answers how many bytes it has.
+pub fn write_lines(text: &mut [u8], lines: &[u32], m: usize, seed: usize) -> usize
+    ensures { λ r. ⌜ (m ≡ 0 → r ≡ 0) ⌝ }
+{
+    let plain = Odd {
+        line: m,
+        field: 0,
+        form: 0,
+    };
+    write(text, lines, m, plain, seed)
+}

@@ -1,4 +1,5 @@
 // The text of a sheet's lines: each number with no leading zeros, but for one field that may have another form.
+ghost use mathlib.Core.Path.{_≡_};
 use plain_sheets::line_words::CLASS;
 use plain_sheets::line_words::FROM;
 use plain_sheets::line_words::RATE;
@@ -163,7 +164,9 @@ fn write_line(text: &mut [u8], at: usize, lines: &[u32], line: usize, odd: Odd) 
 const PLACES: usize = 4099;
 
 // The line of a place, where it is one of m.
-fn some_line(text: &mut [u8], at: usize, lines: &[u32], m: usize, line: usize, odd: Odd) -> usize {
+fn some_line(text: &mut [u8], at: usize, lines: &[u32], m: usize, line: usize, odd: Odd) -> usize
+    ensures { λ r. ⌜ (m ≡ 0 → r ≡ at) ⌝ }
+{
     if m <= line {
         return at;
     }
@@ -171,7 +174,9 @@ fn some_line(text: &mut [u8], at: usize, lines: &[u32], m: usize, line: usize, o
 }
 
 // The text of m lines, in an order that the seed gives.
-pub(crate) fn write(text: &mut [u8], lines: &[u32], m: usize, odd: Odd, seed: usize) -> usize {
+pub(crate) fn write(text: &mut [u8], lines: &[u32], m: usize, odd: Odd, seed: usize) -> usize
+    ensures { λ r. ⌜ (m ≡ 0 → r ≡ 0) ⌝ }
+{
     let step = add(1, pick(seed, 4098));
     let mut place = pick(next(seed), PLACES);
     let mut at = 0;

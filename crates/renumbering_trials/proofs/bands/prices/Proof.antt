@@ -1,0 +1,27 @@
+-- `bands::prices` is safe and ends. Assumes nothing.
+use Prim.Native.Nat.{_-_}
+use native.Mathlib.Omega.{arith}
+use Rattle.renumbering_trials.proofs.bands.prices.Statement.{statement}
+use Rattle.renumbering_trials.proofs.bands.prices.Tie as tie
+
+abbrev Inv-loop : tie.InvT-loop
+Inv-loop table text other-table other-text numbers n v d seed count₀ i₀ count i = Unit {0}
+
+abbrev μ-loop : tie.MeasureT-loop
+μ-loop table text other-table other-text numbers n v d seed count₀ i₀ count i = 6 - i
+
+pub prices-spec : {M : Type 1} → statement M
+prices-spec =
+    tie.close
+    (tie.spec
+    Inv-loop
+    μ-loop
+    (λ c κs. tt)
+    (λ c. tt)
+    (λ c κs. tt)
+    (λ c κs. tt)
+    (λ c κs. tt)
+    (λ c. omega arith)
+    (λ c. omega arith)
+    (λ c. tt)
+    (λ c. tt))
