@@ -17,6 +17,7 @@ use Rattle.base.specs.Limits.{topMark, tableWords, spaceWords}
 use Rattle.base.proofs.Lists.{first-none, none-first, places-one}
 use Rattle.base.proofs.Counts.{times}
 use Rattle.base.proofs.Places.{times-same, times-other}
+use Rattle.base.proofs.Mapped.{some-map}
 use Rattle.tree.specs.Parents.{word, children}
 use Rattle.tree.specs.Faults.{lowest, isStray, strayFault, topsFault, meetsTop, loopFault, listFault}
 use Rattle.tree.proofs.Forests.{child-of, of-child}
@@ -25,7 +26,6 @@ use Rattle.table.proofs.Acceptance.{accepted-iff, count-iff}
 use Rattle.table.proofs.Outcomes.{zero-iff}
 use Rattle.renumbering.specs.Numbering.{Renumbered}
 use Rattle.renumbering.specs.Statements.{Room, SameAcceptance}
-use Rattle.renumbering.proofs.Lists.{some-map}
 use Rattle.renumbering.proofs.Numbers.{injective, same-test, new-old, old-below, way-back, flipped}
 use Rattle.renumbering.proofs.Climbs.{new-in, climb-new}
 

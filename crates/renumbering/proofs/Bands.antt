@@ -6,11 +6,11 @@ use mathlib.Core.Option.{some, Option·map}
 use Prim.Native.Nat.{ℕ, _≤_}
 use lib.Dec.{leb}
 use Rattle.base.proofs.Counting.{count, count-map}
+use Rattle.base.proofs.Mapped.{first-map}
 use Rattle.bands.specs.Bands.{Band, holds, covers, bandOf, SameBands}
 use Rattle.bands.proofs.SameBands.{covers-same, band-same}
 use Rattle.renumbering.specs.Numbering.{Renumbering}
 use Rattle.renumbering.specs.Sheets.{renumbered}
-use Rattle.renumbering.proofs.Lists.{first-map}
 use Rattle.renumbering.proofs.Numbers.{same-test, old, old-new}
 
 -- how many bands with new numbers pass a test

@@ -1,5 +1,4 @@
 -- Why another numbering changes no class and no premium.
-pub mod Lists
 pub mod Numbers
 pub mod Climbs
 pub mod Acceptance

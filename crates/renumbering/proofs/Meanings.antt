@@ -12,13 +12,13 @@ use borrow.Author.Tests.{le-leb, lt-leb}
 use Rattle.base.specs.Lists.{first, has}
 use Rattle.base.specs.Numbers.{Outcome, accepted, unknown, tooDeep, notAbove}
 use Rattle.base.specs.Limits.{topMark}
+use Rattle.base.proofs.Mapped.{some-map}
 use Rattle.tree.specs.Parents.{parent, up, climb, children}
 use Rattle.tree.specs.Level.{levelAncestor}
 use Rattle.tree.specs.Faults.{Tree}
 use Rattle.tree.specs.Questions.{known, classOf, ratingOf, climbOf, ancestryOf, branchOf}
 use Rattle.tree.proofs.Branches.{Strictly, branch-child, branch-not-above, branch-iff, not-above-iff}
 use Rattle.renumbering.specs.Numbering.{Renumbered}
-use Rattle.renumbering.proofs.Lists.{some-map}
 use Rattle.renumbering.proofs.Numbers.{injective, same-test}
 use Rattle.renumbering.proofs.Climbs.{new-in, new-past, parent-new, up-new, ancestor-new, ancestor-old, climb-new, level-new}
 

@@ -10,7 +10,7 @@ use lib.Dec.{leb}
 use borrow.Author.Tests.{le-leb, leb-true}
 use Rattle.base.specs.Lists.{every}
 use Rattle.base.specs.Amounts.{mostLines, mostSum, mostRate}
-use Rattle.base.proofs.Lists.{clash}
+use Rattle.base.proofs.Mapped.{same-truth, every-both, none-fails, fails-none, count-all}
 use Rattle.bands.specs.Bands.{Band, isClass, isBand, covers}
 use Rattle.lines.specs.Text.{lineFeed}
 use Rattle.lines.specs.Fields.{parted}
@@ -21,7 +21,6 @@ use Rattle.sheets.proofs.Theorems.{covered-iff}
 use Rattle.sheets.proofs.Readings.{reading-line, bad-whole, whole-sound}
 use Rattle.renumbering.specs.Numbering.{Renumbered}
 use Rattle.renumbering.specs.Sheets.{statedBy, stated, renumbered, SameSheets}
-use Rattle.renumbering.proofs.Lists.{same-truth, none-fails, fails-none, count-all}
 use Rattle.renumbering.proofs.Numbers.{old-in, new-old, way-back}
 use Rattle.renumbering.proofs.Climbs.{new-in, depth-new}
 use Rattle.renumbering.proofs.Bands.{count-renumbered, covers-new, same-back}
@@ -37,14 +36,6 @@ stated-cons l m ls cs q =
     let (b, p, s) = bind-eq-some-iff (bandLine l) (λ b. Option·map (_∷_ b) (statedBy (m ∷ ls))) .0 (sym (stated-line l m ls) ∙ q) in
     let (ds, t, z) = map-eq-some-iff (_∷_ b) (statedBy (m ∷ ls)) .0 s in
     (b, ds, p, t, z)
-
-every-both : (test : Band → Bool) (b : Band) (bs : List Band) → every test (b ∷ bs) ≡ true → (test b ≡ true) × (every test bs ≡ true)
-unfolding every
-every-both test b bs e = go (test b) refl e
-  where
-    go : (t : Bool) → test b ≡ t → cond t (every test bs) false ≡ true → (test b ≡ true) × (every test bs ≡ true)
-    go true q e = (q, e)
-    go false q e = clash e
 
 module _ (depths : List ℕ) (d : ℕ) where
   line-stated : (k : ℕ) (l : List ℕ) (b : Band) → bandLine l ≡ some b → lineBand depths d k l ≡ cond (leb k mostLines) (cond (isBand depths d b) (some b) none) none

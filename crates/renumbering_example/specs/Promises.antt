@@ -1,4 +1,4 @@
--- What is promised of the premiums that two offices are told: one definition a clause. Lists ps and qs, tables of t and u words, a space of s. Assumes nothing.
+-- What is promised of the premiums that two offices are told: one definition a clause. Assumes nothing.
 use mathlib.Core.Path.{_≡_}
 use mathlib.Core.List.{List}
 use mathlib.Core.Option.{some}
@@ -21,41 +21,46 @@ use Rattle.renumbering.specs.Numbering.{Renumbered, SameRates}
 use Rattle.renumbering.specs.Sheets.{SameSheets}
 use Rattle.renumbering.specs.Alike.{SamePremium, paidOf}
 use Rattle.renumbering.specs.Statements.{Room}
+use Rattle.renumbering_example.specs.Offices.{Office}
 
--- whatever the lists are: under every renumbering that makes them one tree, with entries and rates renumbered alike and tables and space long enough for both, the numbers
--- and the cents are equal
-abbrev pub SamePremiums : List ℕ → List ℕ → List ℕ → List ℕ → ℕ → ℕ → ℕ → ℕ → ℕ → Price → Price → Type 0
-SamePremiums ps qs rates others t u s v w first second =
-    (r : ℕ → ℕ) → Renumbered r ps qs → SameRates r (length ps) rates others → w ≡ r v → Room (length ps) t s → Room (length ps) u s → SamePremium r first second
+-- two offices ask for one entry of one tree: under renumbering r their lists are one tree and the entries correspond, and table and space are long enough for both
+pub record OneEntry (r : ℕ → ℕ) (first second : Office) : Type 0 where
+  pub lists : Renumbered r (first .list) (second .list)
+  pub entries : second .entry ≡ r (first .entry)
+  pub room : Room (length (first .list)) (first .table) (first .space)
+  pub other-room : Room (length (first .list)) (second .table) (second .space)
 
--- a list that forms one tree, with table and space long enough
-pub record OneTree (ps : List ℕ) (t s : ℕ) : Type 0 where
-  pub tree : Tree ps
-  pub most : length ps ≤ mostEntries
-  pub room : Room (length ps) t s
+-- then, whatever the lists are, numbers and cents are equal by rates renumbered alike
+abbrev pub SamePremiums : Office → Office → Price → Price → Type 0
+SamePremiums first second p q = (r : ℕ → ℕ) → OneEntry r first second → SameRates r (length (first .list)) (first .tariff) (second .tariff) → SamePremium r p q
 
--- an entry of such a list has a class, and where the class's rate is within its limit and the sum legal, number 0, that class and the cents at that rate
-pub record Paid (ps rates : List ℕ) (v d : ℕ) (sum : ℤ) (p : Price) : Type 0 where
+-- and by sheets renumbered alike, of which the first is one to be accepted
+abbrev pub SamePrices : ℕ → Office → Office → SheetPrice → SheetPrice → Type 0
+SamePrices d first second p q = (r : ℕ → ℕ) → OneEntry r first second → SameSheets r (first .tariff) (second .tariff) → Good (depthsOf (first .list)) d (first .tariff) → SamePremium r (paidOf p) (paidOf q)
+
+-- an office's list forms one tree that holds its entry, and table and space are long enough
+pub record Known (o : Office) : Type 0 where
+  pub tree : Tree (o .list)
+  pub most : length (o .list) ≤ mostEntries
+  pub entry : o .entry < length (o .list)
+  pub room : Room (length (o .list)) (o .table) (o .space)
+
+-- the entry has a class, and where the class's rate is in the list and within its limit and the sum is legal: number 0, that class and the cents at that rate
+pub record PaidByRate (o : Office) (d : ℕ) (sum : ℤ) (p : Price) : Type 0 where
   pub class : ℕ
-  pub rated : RatingClass ps v d class
-  pub paid : class < length rates → getD rates class 0 ≤ mostRate → natAbs sum ≤ mostSum → p ≡ costing (accepted class) (premium sum (getD rates class 0))
+  pub rated : RatingClass (o .list) (o .entry) d class
+  pub paid : class < length (o .tariff) → getD (o .tariff) class 0 ≤ mostRate → natAbs sum ≤ mostSum → p ≡ costing (accepted class) (premium sum (getD (o .tariff) class 0))
 
-abbrev pub PaidPremium : List ℕ → List ℕ → ℕ → ℕ → ℕ → ℕ → ℤ → Price → Type 0
-PaidPremium ps rates t s v d sum p = OneTree ps t s → v < length ps → Paid ps rates v d sum p
+abbrev pub PaidPremium : Office → ℕ → ℤ → Price → Type 0
+PaidPremium o d sum p = Known o → PaidByRate o d sum p
 
--- the same by sheets, where the first list's is one that the check accepts
-abbrev pub SamePrices : List ℕ → List ℕ → List ℕ → List ℕ → ℕ → ℕ → ℕ → ℕ → ℕ → ℕ → SheetPrice → SheetPrice → Type 0
-SamePrices ps qs text other t u s v w d first second =
-    (r : ℕ → ℕ) → Renumbered r ps qs → SameSheets r text other → w ≡ r v → Room (length ps) t s → Room (length ps) u s
-    → Good (depthsOf ps) d text → SamePremium r (paidOf first) (paidOf second)
-
--- every entry has a class, and every legal sum number 0, that class and the cents at the rate of the one band that holds the sum's size
-pub record PaidBand (ps : List ℕ) (bs : List Band) (v d : ℕ) (sum : ℤ) (p : SheetPrice) : Type 0 where
+-- by a sheet of bands bs: the entry has a class, and a legal sum number 0, that class and the cents at the rate of the band that holds the sum's size
+pub record PaidByBand (o : Office) (bs : List Band) (d : ℕ) (sum : ℤ) (p : SheetPrice) : Type 0 where
   pub class : ℕ
-  pub rated : RatingClass ps v d class
+  pub rated : RatingClass (o .list) (o .entry) d class
   pub band : Band
   pub found : bandOf bs class (natAbs sum) ≡ some band
   pub paid : p ≡ costingBand (accepted class) (premium sum (band .rate))
 
-abbrev pub PaidPrice : List ℕ → List ℕ → ℕ → ℕ → ℕ → ℕ → ℤ → SheetPrice → Type 0
-PaidPrice ps text t s v d sum p = OneTree ps t s → v < length ps → (g : Good (depthsOf ps) d text) → natAbs sum ≤ mostSum → PaidBand ps (g .bands) v d sum p
+abbrev pub PaidPrice : Office → ℕ → ℤ → SheetPrice → Type 0
+PaidPrice o d sum p = Known o → (g : Good (depthsOf (o .list)) d (o .tariff)) → natAbs sum ≤ mostSum → PaidByBand o (g .bands) d sum p

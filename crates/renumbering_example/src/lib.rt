@@ -1,9 +1,8 @@
 // Another office's numbering: the premium of one barn from two parent lists of one tree, each with rates or a sheet of its own. What it promises follows from the promises
 // of `prepare`, `premium` and `price` and from the theorems of `renumbering` alone.
 ghost use mathlib.Core.Path.{_≡_};
-ghost use lib.ListN.{length};
 ghost use Rattle.table.specs.Preparing.{tableAfter, spaceAfter};
-ghost use Rattle.renumbering_example.specs.Offices.{premiumFrom, priceFrom};
+ghost use Rattle.renumbering_example.specs.Offices.{office, premiumFrom, priceFrom};
 ghost use Rattle.renumbering_example.specs.Promises.{SamePremiums, PaidPremium, SamePrices, PaidPrice};
 use base::Cents;
 use base::Node;
@@ -38,7 +37,7 @@ fn premium_from(
     d: u32,
     sum: Sum,
 ) -> Price
-    ensures answer { λ r. ⌜ r ≡ premiumFrom (now (parents .entry)) (now (rates .entry)) (length (now (table .entry))) (length (now (space .entry))) (v .0) d (sum .0) ⌝ }
+    ensures answer { λ r. ⌜ r ≡ premiumFrom (office (now (parents .entry)) (now (rates .entry)) (now (table .entry)) (now (space .entry)) (v .0)) d (sum .0) ⌝ }
     ensures written { λ _. ⌜ now (table .exit) ≡ tableAfter (now (parents .entry)) (now (table .entry)) (now (space .entry)) ⌝ }
     ensures left { λ _. ⌜ now (space .exit) ≡ spaceAfter (now (parents .entry)) (now (table .entry)) (now (space .entry)) ⌝ }
 {
@@ -66,7 +65,7 @@ fn price_from(
     d: u32,
     sum: Sum,
 ) -> SheetPrice
-    ensures answer { λ r. ⌜ r ≡ priceFrom (now (parents .entry)) (now (text .entry)) (length (now (table .entry))) (length (now (space .entry))) (v .0) d (sum .0) ⌝ }
+    ensures answer { λ r. ⌜ r ≡ priceFrom (office (now (parents .entry)) (now (text .entry)) (now (table .entry)) (now (space .entry)) (v .0)) d (sum .0) ⌝ }
     ensures written { λ _. ⌜ now (table .exit) ≡ tableAfter (now (parents .entry)) (now (table .entry)) (now (space .entry)) ⌝ }
     ensures left { λ _. ⌜ now (space .exit) ≡ spaceAfter (now (parents .entry)) (now (table .entry)) (now (space .entry)) ⌝ }
 {
@@ -104,10 +103,10 @@ pub fn two_premiums(
     d: u32,
     sum: Sum,
 ) -> TwoPremiums
-    ensures first { λ r. ⌜ r .first ≡ premiumFrom (now (list1 .entry)) (now (rates1 .entry)) (length (now (table1 .entry))) (length (now (space .entry))) (v .0) d (sum .0) ⌝ }
-    ensures second { λ r. ⌜ r .second ≡ premiumFrom (now (list2 .entry)) (now (rates2 .entry)) (length (now (table2 .entry))) (length (now (space .entry))) (w .0) d (sum .0) ⌝ }
-    ensures same { λ r. ⌜ SamePremiums (now (list1 .entry)) (now (list2 .entry)) (now (rates1 .entry)) (now (rates2 .entry)) (length (now (table1 .entry))) (length (now (table2 .entry))) (length (now (space .entry))) (v .0) (w .0) (r .first) (r .second) ⌝ }
-    ensures paid { λ r. ⌜ PaidPremium (now (list1 .entry)) (now (rates1 .entry)) (length (now (table1 .entry))) (length (now (space .entry))) (v .0) d (sum .0) (r .first) ⌝ }
+    ensures first { λ r. ⌜ r .first ≡ premiumFrom (office (now (list1 .entry)) (now (rates1 .entry)) (now (table1 .entry)) (now (space .entry)) (v .0)) d (sum .0) ⌝ }
+    ensures second { λ r. ⌜ r .second ≡ premiumFrom (office (now (list2 .entry)) (now (rates2 .entry)) (now (table2 .entry)) (now (space .entry)) (w .0)) d (sum .0) ⌝ }
+    ensures same { λ r. ⌜ SamePremiums (office (now (list1 .entry)) (now (rates1 .entry)) (now (table1 .entry)) (now (space .entry)) (v .0)) (office (now (list2 .entry)) (now (rates2 .entry)) (now (table2 .entry)) (now (space .entry)) (w .0)) (r .first) (r .second) ⌝ }
+    ensures paid { λ r. ⌜ PaidPremium (office (now (list1 .entry)) (now (rates1 .entry)) (now (table1 .entry)) (now (space .entry)) (v .0)) d (sum .0) (r .first) ⌝ }
     ensures written1 { λ _. ⌜ now (table1 .exit) ≡ tableAfter (now (list1 .entry)) (now (table1 .entry)) (now (space .entry)) ⌝ }
     ensures written2 { λ _. ⌜ now (table2 .exit) ≡ tableAfter (now (list2 .entry)) (now (table2 .entry)) (now (space .entry)) ⌝ }
     ensures left { λ _. ⌜ now (space .exit) ≡ spaceAfter (now (list2 .entry)) (now (table2 .entry)) (spaceAfter (now (list1 .entry)) (now (table1 .entry)) (now (space .entry))) ⌝ }
@@ -134,10 +133,10 @@ pub fn two_prices(
     d: u32,
     sum: Sum,
 ) -> TwoPrices
-    ensures first { λ r. ⌜ r .first ≡ priceFrom (now (list1 .entry)) (now (text1 .entry)) (length (now (table1 .entry))) (length (now (space .entry))) (v .0) d (sum .0) ⌝ }
-    ensures second { λ r. ⌜ r .second ≡ priceFrom (now (list2 .entry)) (now (text2 .entry)) (length (now (table2 .entry))) (length (now (space .entry))) (w .0) d (sum .0) ⌝ }
-    ensures same { λ r. ⌜ SamePrices (now (list1 .entry)) (now (list2 .entry)) (now (text1 .entry)) (now (text2 .entry)) (length (now (table1 .entry))) (length (now (table2 .entry))) (length (now (space .entry))) (v .0) (w .0) d (r .first) (r .second) ⌝ }
-    ensures paid { λ r. ⌜ PaidPrice (now (list1 .entry)) (now (text1 .entry)) (length (now (table1 .entry))) (length (now (space .entry))) (v .0) d (sum .0) (r .first) ⌝ }
+    ensures first { λ r. ⌜ r .first ≡ priceFrom (office (now (list1 .entry)) (now (text1 .entry)) (now (table1 .entry)) (now (space .entry)) (v .0)) d (sum .0) ⌝ }
+    ensures second { λ r. ⌜ r .second ≡ priceFrom (office (now (list2 .entry)) (now (text2 .entry)) (now (table2 .entry)) (now (space .entry)) (w .0)) d (sum .0) ⌝ }
+    ensures same { λ r. ⌜ SamePrices d (office (now (list1 .entry)) (now (text1 .entry)) (now (table1 .entry)) (now (space .entry)) (v .0)) (office (now (list2 .entry)) (now (text2 .entry)) (now (table2 .entry)) (now (space .entry)) (w .0)) (r .first) (r .second) ⌝ }
+    ensures paid { λ r. ⌜ PaidPrice (office (now (list1 .entry)) (now (text1 .entry)) (now (table1 .entry)) (now (space .entry)) (v .0)) d (sum .0) (r .first) ⌝ }
     ensures written1 { λ _. ⌜ now (table1 .exit) ≡ tableAfter (now (list1 .entry)) (now (table1 .entry)) (now (space .entry)) ⌝ }
     ensures written2 { λ _. ⌜ now (table2 .exit) ≡ tableAfter (now (list2 .entry)) (now (table2 .entry)) (now (space .entry)) ⌝ }
     ensures left { λ _. ⌜ now (space .exit) ≡ spaceAfter (now (list2 .entry)) (now (table2 .entry)) (spaceAfter (now (list1 .entry)) (now (table1 .entry)) (now (space .entry))) ⌝ }

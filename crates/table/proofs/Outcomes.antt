@@ -11,7 +11,7 @@ use lib.ListN.{length}
 use lib.Dec.{eqb, ltb}
 use borrow.Author.Tests.{lt-ltb, le-ltb}
 use Rattle.base.specs.Lists.{some?, has}
-use Rattle.base.specs.Numbers.{Outcome, accepted, count, shortTable, shortSpace, stray, loop}
+use Rattle.base.specs.Numbers.{Outcome, accepted, count, shortTable, shortSpace, stray, loop, Says}
 use Rattle.base.specs.Limits.{mostEntries, tableWords, spaceWords, topMark}
 use Rattle.base.proofs.Lists.{clash}
 use Rattle.tree.specs.Parents.{children}
@@ -141,3 +141,28 @@ module _ (ps : List ℕ) (t s : ℕ) where
         (one, most, tree, not-short t (tableWords (length ps)) shortTable table, not-short s (spaceWords (length ps)) shortSpace space),
     λ h. ap (λ o. o .number) (accepts ps t s (accepted-iff ps .1 (h .0, h .1, h .2)) (h .3) (h .4)),
   )
+
+  -- a refusal is the answer, and acceptance is 0
+  pub none-zero : refusal ps t s ≡ none → preparing ps t s .number ≡ 0
+  unfolding preparing Option·elim
+  none-zero e = rw e
+
+  pub some-refused : (o : Outcome) → refusal ps t s ≡ some o → preparing ps t s ≡ o
+  unfolding preparing Option·elim
+  some-refused o e = rw e
+
+-- what a caller hands on, by preparing's number and word: a where the list is accepted, else f of the refusal
+module _ {A : Type 0} (ps : List ℕ) (t s number word : ℕ) (says : Says (preparing ps t s) number word) (a : A) (f : Outcome → A) where
+  pub accepted-is : number ≡ 0 → Option·elim (refusal ps t s) a f ≡ a
+  unfolding Option·elim
+  accepted-is z = rw (refusal-none ps t s (sym (says .0) ∙ z))
+
+  pub refused-is : (number ≡ 0 → ⊥) → Option·elim (refusal ps t s) a f ≡ f (record { number = number; word = word })
+  unfolding Option·elim
+  refused-is z = go (refusal ps t s) refl
+    where
+      go : (o : Option Outcome) → refusal ps t s ≡ o → Option·elim o a f ≡ f (record { number = number; word = word })
+      go none e = absurd (z (says .0 ∙ none-zero ps t s e))
+      go (some o) e =
+          let q = sym (some-refused ps t s o e) in
+          ap f (q ∙ ap (λ x. record { number = x; word = preparing ps t s .word }) (sym (says .0)) ∙ ap (λ x. record { number = number; word = x }) (sym (says .1)))

@@ -3,7 +3,7 @@ use mathlib.Core.Path.{_≡_, ap, _∙_}
 use borrow.Author.Needs.{needs}
 use lib.ListN.{length}
 use Rattle.table.specs.Preparing.{spaceAfter}
-use Rattle.renumbering_example.specs.Offices.{premiumFrom}
+use Rattle.renumbering_example.specs.Offices.{office, premiumFrom}
 use Rattle.renumbering_example.proofs.Offices.{told-premiums, same-table}
 use Rattle.renumbering_example.proofs.two_premiums.Statement.{statement}
 use Rattle.renumbering_example.proofs.two_premiums.Tie as tie
@@ -13,13 +13,12 @@ returns c =
     let a = c .before .before .before .before .before .before .before .before .before .before .before .before .before .before .before .before .before .before .before .before .before .args in
     let one = c .before .before .before .before .before .before .before .before .before .before .before .premium-from in
     let other = c .before .before .before .before .premium-from2 in
-    let t = length (a .table1 .now) in
-    let u = length (a .table2 .now) in
-    let s = length (a .space .now) in
-    let kept : length (one .last .1 .1 .1 .0) ≡ s = search needs in
+    let x = office (a .list1 .now) (a .rates1 .now) (a .table1 .now) (a .space .now) (a .v .0) in
+    let y = office (a .list2 .now) (a .rates2 .now) (a .table2 .now) (a .space .now) (a .w .0) in
+    let kept : length (one .last .1 .1 .1 .0) ≡ length (a .space .now) = search needs in
     let first = one .ensures .0 in
-    let second = other .ensures .0 ∙ ap (λ k. premiumFrom (a .list2 .now) (a .rates2 .now) u k (a .w .0) (a .d) (a .sum .0)) kept in
-    let (same, paid) = told-premiums (a .list1 .now) (a .list2 .now) t u s (a .v .0) (a .w .0) (a .d) (a .sum .0) (a .rates1 .now) (a .rates2 .now) (one .result) (other .result) first second in (
+    let second = other .ensures .0 ∙ ap (λ k. premiumFrom (record { list = y .list; tariff = y .tariff; table = y .table; space = k; entry = y .entry }) (a .d) (a .sum .0)) kept in
+    let (same, paid) = told-premiums x y (a .d) (a .sum .0) (one .result) (other .result) first second in (
       first,
       (
         second,

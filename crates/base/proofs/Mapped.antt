@@ -1,16 +1,15 @@
--- Tests of a list whose every one is mapped, and of the same values in another order. Assumes nothing.
-use mathlib.Core.Path.{_≡_, refl, sym, ap, fun-ext, _∙_}
+-- Tests of a list whose every one is mapped; every one that passes, and none that fails. Assumes nothing.
+use mathlib.Core.Path.{_≡_, refl, sym, ap}
 use mathlib.Core.Logic.{_↔_}
 use mathlib.Core.List.{List, [], _∷_, map}
 use mathlib.Core.Bool.{Bool, true, false, cond, not}
 use mathlib.Core.Option.{some, Option·map}
-use Prim.Native.Nat.{ℕ, _≤_}
 use native.Mathlib.Omega.{arith}
 use lib.ListN.{length}
-use Rattle.base.specs.Lists.{keep, first, every, some?}
+use Rattle.base.specs.Lists.{first, every, some?}
 use Rattle.base.proofs.Lists.{clash}
 use Rattle.base.proofs.Counts.{one}
 use Rattle.base.proofs.Counting.{count, count-cons, count-nil}
 
 module _ {ℓ κ} {A : Type ℓ} {B : Type κ} (f : A → B) (old : A → Bool) (new : B → Bool) (alike : (x : A) → new (f x) ≡ old x) where
   -- whether one passes, and the first that does
@@ -36,14 +35,17 @@ same-truth false false h = refl
 
 -- every one passes just where none fails
 module _ {ℓ} {A : Type ℓ} (test : A → Bool) where
-  pub none-fails : (l : List A) → every test l ≡ true → count (λ x. not (test x)) l ≡ 0
+  pub every-both : (x : A) (l : List A) → every test (x ∷ l) ≡ true → (test x ≡ true) × (every test l ≡ true)
   unfolding every
-  none-fails [] e = count-nil (λ x. not (test x))
-  none-fails (x ∷ l) e = go (test x) refl e (none-fails l)
+  every-both x l e = go (test x) refl e
     where
-      go : (t : Bool) → test x ≡ t → cond t (every test l) false ≡ true → (every test l ≡ true → count (λ y. not (test y)) l ≡ 0) → count (λ y. not (test y)) (x ∷ l) ≡ 0
-      go true q e ih = omega (arith, count-cons (λ y. not (test y)) x l, ap (λ t. one (not t)) q, ih e)
-      go false q e ih = clash e
+      go : (t : Bool) → test x ≡ t → cond t (every test l) false ≡ true → (test x ≡ true) × (every test l ≡ true)
+      go true q e = (q, e)
+      go false q e = clash e
+
+  pub none-fails : (l : List A) → every test l ≡ true → count (λ x. not (test x)) l ≡ 0
+  none-fails [] e = count-nil (λ x. not (test x))
+  none-fails (x ∷ l) e = let (q, rest) = every-both x l e in omega (arith, count-cons (λ y. not (test y)) x l, ap (λ t. one (not t)) q, none-fails l rest)
 
   pub fails-none : (l : List A) → count (λ x. not (test x)) l ≡ 0 → every test l ≡ true
   unfolding every
