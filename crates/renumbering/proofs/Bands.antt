@@ -2,8 +2,8 @@
 use mathlib.Core.Path.{_≡_, refl, sym, ap, fun-ext, _∙_}
 use mathlib.Core.List.{List, map}
 use mathlib.Core.Bool.{Bool, _&&_}
-use mathlib.Core.Option.{some, Option·map}
-use Prim.Native.Nat.{ℕ, _≤_}
+use mathlib.Core.Option.{Option·map}
+use Prim.Native.Nat.{ℕ}
 use lib.Dec.{leb}
 use Rattle.base.proofs.Counting.{count, count-map}
 use Rattle.base.proofs.Mapped.{first-map}

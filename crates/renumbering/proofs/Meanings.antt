@@ -1,6 +1,6 @@
 -- What each question means on two lists under a renumbering: the same number, and the named entry renumbered. Assumes nothing.
 use mathlib.Core.Path.{_≡_, refl, sym, ap, _∙_}
-use mathlib.Core.List.{List, map}
+use mathlib.Core.List.{List}
 use mathlib.Core.Bool.{cond}
 use mathlib.Core.Option.{Option, none, some, Option·map, Option·elim}
 use Prim.Native.Nat.{ℕ, _≤_, _<_}
@@ -13,13 +13,13 @@ use Rattle.base.specs.Lists.{first, has}
 use Rattle.base.specs.Numbers.{Outcome, accepted, unknown, tooDeep, notAbove}
 use Rattle.base.specs.Limits.{topMark}
 use Rattle.base.proofs.Mapped.{some-map}
-use Rattle.tree.specs.Parents.{parent, up, climb, children}
+use Rattle.tree.specs.Parents.{up, climb, children}
 use Rattle.tree.specs.Level.{levelAncestor}
 use Rattle.tree.specs.Faults.{Tree}
 use Rattle.tree.specs.Questions.{known, classOf, ratingOf, climbOf, ancestryOf, branchOf}
-use Rattle.tree.proofs.Branches.{Strictly, branch-child, branch-not-above, branch-iff, not-above-iff}
+use Rattle.tree.proofs.Branches.{branch-child, branch-not-above, branch-iff, not-above-iff}
 use Rattle.renumbering.specs.Numbering.{Renumbered}
-use Rattle.renumbering.proofs.Numbers.{injective, same-test}
+use Rattle.renumbering.proofs.Numbers.{same-test}
 use Rattle.renumbering.proofs.Climbs.{new-in, new-past, parent-new, up-new, ancestor-new, ancestor-old, climb-new, level-new}
 
 -- an outcome with the new number of what it names

@@ -1,11 +1,11 @@
 -- Laws of a renumbering: it is one to one on all numbers, and the way back is one too; so two lists of one tree are so both ways, and every list has its renumbered list. Assumes nothing.
 use mathlib.Core.Path.{_≡_, sym, ap, subst, _∙_}
 use mathlib.Core.List.{List}
-use mathlib.Core.Bool.{Bool}
 use Prim.Native.Nat.{ℕ, _≤_, _<_}
 use native.Mathlib.Omega.{arith}
 use native.Mathlib.Decide.{ℕ-discrete, decLt}
 use lib.ListN.{length}
+use lib.Seq.{ext-getD}
 use lib.Dec.{eqb}
 use borrow.Author.Tests.{eq-eqb, ne-eqb}
 use Rattle.base.specs.Lists.{below}
@@ -93,3 +93,25 @@ every-list r ps p =
         words = λ v h. below-at (length ps) (λ w. r (word ps (old w))) 0 (r v) (p .within v h) ∙ ap (λ x. r (word ps x)) (old-new (length ps) r p v);
       },
     )
+
+-- it has only one, and of words as wide
+module _ (r : ℕ → ℕ) (ps qs : List ℕ) (e : Renumbered r ps qs) where
+  pub word-new : (w : ℕ) → w < length qs → (way-back r ps qs e w < length ps) × (word qs w ≡ r (word ps (way-back r ps qs e w)))
+  word-new w h =
+      let k = old-below (length ps) r (e .numbers) w (omega (arith, e .size)) in
+      (k, ap (word qs) (sym (new-old (length ps) r (e .numbers) w)) ∙ e .words (way-back r ps qs e w) k)
+
+  pub one-list : (os : List ℕ) → Renumbered r ps os → qs ≡ os
+  one-list os i = ext-getD 0 qs os (e .size ∙ sym (i .size)) (λ w h.
+      let (k, q) = word-new w h in
+      q ∙ sym (i .words (way-back r ps qs e w) k) ∙ ap (word os) (new-old (length ps) r (e .numbers) w))
+
+  pub same-width : (m : ℕ) → length ps ≤ m → ((v : ℕ) → v < length ps → word ps v < m) → (w : ℕ) → w < length qs → word qs w < m
+  same-width m most below w h = let (k, q) = word-new w h in go (word ps (way-back r ps qs e w)) q (below (way-back r ps qs e w) k)
+    where
+      go : (x : ℕ) → word qs w ≡ r x → x < m → word qs w < m
+      go x q b = inside (decLt x (length ps))
+        where
+          inside : Dec (x < length ps) → word qs w < m
+          inside (yes a) = omega (arith, e .numbers .within x a)
+          inside (no a) = omega (arith, e .numbers .others x (omega arith))

@@ -6,7 +6,7 @@ use mathlib.Core.Option.{some, Option·map}
 use Prim.Native.Nat.{ℕ, _≤_, _<_}
 use native.Mathlib.Omega.{arith}
 use native.Mathlib.Decide.{ℕ-discrete, decLe}
-use lib.ListN.{length, getD}
+use lib.ListN.{getD}
 use lib.Dec.{leb}
 use lib.IntN.{ℤ, natAbs}
 use Rattle.base.specs.Numbers.{Outcome, accepted, badRate, badSum}

@@ -7,7 +7,7 @@ use native.Mathlib.Omega.{arith}
 use native.Mathlib.Decide.{decLe}
 use lib.ListN.{length}
 use lib.IntN.{ℤ}
-use Rattle.base.specs.Numbers.{Outcome, accepted, unknown}
+use Rattle.base.specs.Numbers.{Outcome, unknown}
 use Rattle.base.specs.Limits.{topMark}
 use Rattle.tree.specs.Faults.{Tree}
 use Rattle.tree.specs.Questions.{ratingOf}
@@ -24,13 +24,13 @@ use Rattle.sheets.specs.Verdicts.{naming, verdict, depthsOf, checkTo, Good}
 use Rattle.sheets.specs.Texts.{sheetOf, bandsIn}
 use Rattle.sheets.proofs.Theorems.{accepted-good, check-right, covered-iff}
 use Rattle.bands.specs.Bands.{covers}
-use Rattle.pricing.specs.Quotes.{refusing, classPrice, sheetPrice, priceOn, priceTo}
+use Rattle.pricing.specs.Quotes.{refusing, classPrice, sheetPrice, priceOn}
 use Rattle.pricing.proofs.SheetPrices.{price-unfound}
 use Rattle.pricing.proofs.Theorems.{price-right, good-price}
 use Rattle.renumbering.specs.Numbering.{Renumbered, SameRates}
 use Rattle.renumbering.specs.Sheets.{SameSheets}
 use Rattle.renumbering.specs.Alike.{SameClass, SameRelation, SamePrice, SameSheetPrice}
-use Rattle.renumbering.specs.Statements.{EveryList, Acceptance, TwoTables, SameClasses, Classes, Premiums, AcceptedStates, SheetAcceptance, Prices}
+use Rattle.renumbering.specs.Statements.{EveryList, OneList, SameWidth, Acceptance, Classes, Premiums, AcceptedStates, SheetAcceptance, Prices}
 use Rattle.renumbering.proofs.Numbers as numbers
 use Rattle.renumbering.proofs.Acceptance as acceptance
 use Rattle.renumbering.proofs.Meanings.{renamed, class-new, climbing-new, rating-new, ancestry-new, branch-new}
@@ -39,6 +39,12 @@ use Rattle.renumbering.proofs.Prices.{rates-alike, refusing-alike, band
 
 pub every-list : EveryList
 every-list = numbers.every-list
+
+pub one-list : OneList
+one-list r ps qs os a b = numbers.one-list r ps qs a os b
+
+pub same-width : SameWidth
+same-width = numbers.same-width
 
 pub one-acceptance : Acceptance
 one-acceptance = acceptance.acceptance

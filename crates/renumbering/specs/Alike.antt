@@ -28,7 +28,7 @@ pub record SamePremium (r : ℕ → ℕ) (first second : Price) : Type 0 where
   pub cents : second .cents ≡ first .cents
   pub class : first .number ≡ 0 → second .word ≡ r (first .word)
 
--- and of a refusal the same name: 7 names a number that is no entry's and stays, and every other refusal of a price 0
+-- and of a refusal the same name: 7 names a number that is no entry's and stays, 11 and 12 name 0
 pub record SamePrice (r : ℕ → ℕ) (first second : Price) : Type 0 where
   pub premium : SamePremium r first second
   pub refusal : (first .number ≡ 0 → ⊥) → second .word ≡ first .word

@@ -4,10 +4,11 @@ use mathlib.Core.Path.{_≡_}
 use mathlib.Core.Logic.{_↔_}
 use mathlib.Core.List.{List}
 use mathlib.Core.Option.{some}
-use Prim.Native.Nat.{ℕ, _≤_}
+use Prim.Native.Nat.{ℕ, _≤_, _<_}
 use lib.ListN.{length}
 use lib.IntN.{ℤ}
 use Rattle.base.specs.Limits.{tableWords, spaceWords}
+use Rattle.tree.specs.Parents.{word}
 use Rattle.table.specs.Preparing.{Accepted, Prepared, preparing}
 use Rattle.answers.specs.Answers.{answerTo}
 use Rattle.answers.specs.Steps.{level, climbing, rating, ancestry, branch}
@@ -19,9 +20,16 @@ use Rattle.renumbering.specs.Numbering.{Renumbering, Renumbered, SameRat
 use Rattle.renumbering.specs.Sheets.{stated, SameSheets}
 use Rattle.renumbering.specs.Alike.{SameClass, SameRelation, SamePrice, SameSheetPrice}
 
--- every list has its renumbered list under every renumbering
+-- every list has its renumbered list under every renumbering, and has only one
 abbrev pub EveryList : Type 0
 EveryList = (r : ℕ → ℕ) (ps : List ℕ) → Renumbering (length ps) r → (qs : List ℕ) × Renumbered r ps qs
+
+abbrev pub OneList : Type 0
+OneList = (r : ℕ → ℕ) (ps qs os : List ℕ) → Renumbered r ps qs → Renumbered r ps os → qs ≡ os
+
+-- its words are below m where those of the first list are: of 32 bits, say
+abbrev pub SameWidth : Type 0
+SameWidth = (r : ℕ → ℕ) (ps qs : List ℕ) → Renumbered r ps qs → (m : ℕ) → length ps ≤ m → ((v : ℕ) → v < length ps → word ps v < m) → (w : ℕ) → w < length qs → word qs w < m
 
 -- a table and a space of these lengths are long enough for n entries
 pub record Room (n table space : ℕ) : Type 0 where
