@@ -26,7 +26,7 @@ use Rattle.table.proofs.Acceptance.{accepted-iff, count-iff}
 use Rattle.table.proofs.Outcomes.{zero-iff}
 use Rattle.renumbering.specs.Numbering.{Renumbered}
 use Rattle.renumbering.specs.Statements.{Room, SameAcceptance}
-use Rattle.renumbering.proofs.Numbers.{injective, same-test, new-old, old-below, way-back, flipped}
+use Rattle.renumbering.proofs.Numbers.{injective, same-test, new-old, old-below, way-back, word-new, flipped}
 use Rattle.renumbering.proofs.Climbs.{new-in, climb-new}
 
 -- the number of a refusal, 0 for none
@@ -111,8 +111,8 @@ module _ (r : ℕ → ℕ) (ps qs : List ℕ) (e : Renumbered r ps qs) where
     unfolding times
     only-top t alone m b marked =
         let v : ℕ = way-back r ps qs e m in
-        let h : v < length ps = old-below (length ps) r (e .numbers) m (omega (arith, e .size)) in
-        let w : word ps v ≡ topMark = injective (length ps) r (e .numbers) (word ps v) topMark (sym (e .words v h) ∙ ap (word qs) (new-old (length ps) r (e .numbers) m) ∙ marked ∙ sym mark-stays) in
+        let (h, q) = word-new r ps qs e m b in
+        let w : word ps v ≡ topMark = injective (length ps) r (e .numbers) (word ps v) topMark (sym q ∙ marked ∙ sym mark-stays) in
         sym (new-old (length ps) r (e .numbers) m) ∙ ap r (go v (sym (ap (times v) alone) ∙ ap (λ x. times v (children ps x)) (sym w) ∙ of-child ps small v h) (ℕ-discrete v t))
       where
         go : (v : ℕ) → times v (t ∷ []) ≡ 1 → Dec (v ≡ t) → v ≡ t

@@ -68,19 +68,39 @@ module _ (n : ℕ) (r : ℕ → ℕ) (p : Renumbering n r) where
     others = λ v h. injective (old v) v (new-old v ∙ sym (p .others v h));
   }
 
--- two lists of one tree are so both ways
+-- two lists of one tree
 module _ (r : ℕ → ℕ) (ps qs : List ℕ) (e : Renumbered r ps qs) where
   abbrev pub way-back : ℕ → ℕ
   way-back = old (length ps) r (e .numbers)
 
+  pub word-new : (w : ℕ) → w < length qs → (way-back w < length ps) × (word qs w ≡ r (word ps (way-back w)))
+  word-new w h =
+      let k = old-below (length ps) r (e .numbers) w (omega (arith, e .size)) in
+      (k, ap (word qs) (sym (new-old (length ps) r (e .numbers) w)) ∙ e .words (way-back w) k)
+
+  -- they are so both ways
   pub flipped : Renumbered way-back qs ps
   flipped = record {
     numbers = subst (λ n. Renumbering n way-back) (sym (e .size)) (back (length ps) r (e .numbers));
     size = sym (e .size);
-    words = λ w h.
-        let k : way-back w < length ps = old-below (length ps) r (e .numbers) w (omega (arith, e .size)) in
-        sym (old-new (length ps) r (e .numbers) (word ps (way-back w))) ∙ ap way-back (sym (e .words (way-back w) k) ∙ ap (word qs) (new-old (length ps) r (e .numbers) w));
+    words = λ w h. sym (old-new (length ps) r (e .numbers) (word ps (way-back w))) ∙ ap way-back (sym (word-new w h .1));
   }
+
+  -- the first list fixes the second, and how wide its words are
+  pub one-list : (os : List ℕ) → Renumbered r ps os → qs ≡ os
+  one-list os i = ext-getD 0 qs os (e .size ∙ sym (i .size)) (λ w h.
+      let (k, q) = word-new w h in
+      q ∙ sym (i .words (way-back w) k) ∙ ap (word os) (new-old (length ps) r (e .numbers) w))
+
+  new-below : (m x : ℕ) → length ps ≤ m → x < m → r x < m
+  new-below m x most h = go (decLt x (length ps))
+    where
+      go : Dec (x < length ps) → r x < m
+      go (yes a) = omega (arith, e .numbers .within x a)
+      go (no a) = omega (arith, e .numbers .others x (omega arith))
+
+  pub same-width : (m : ℕ) → length ps ≤ m → ((v : ℕ) → v < length ps → word ps v < m) → (w : ℕ) → w < length qs → word qs w < m
+  same-width m most below w h = let (k, q) = word-new w h in omega (arith, new-below m (word ps (way-back w)) most (below (way-back w) k))
 
 -- every list has its renumbered list
 pub every-list : (r : ℕ → ℕ) (ps : List ℕ) → Renumbering (length ps) r → (qs : List ℕ) × Renumbered r ps qs
@@ -93,25 +113,3 @@ every-list r ps p =
         words = λ v h. below-at (length ps) (λ w. r (word ps (old w))) 0 (r v) (p .within v h) ∙ ap (λ x. r (word ps x)) (old-new (length ps) r p v);
       },
     )
-
--- it has only one, and of words as wide
-module _ (r : ℕ → ℕ) (ps qs : List ℕ) (e : Renumbered r ps qs) where
-  pub word-new : (w : ℕ) → w < length qs → (way-back r ps qs e w < length ps) × (word qs w ≡ r (word ps (way-back r ps qs e w)))
-  word-new w h =
-      let k = old-below (length ps) r (e .numbers) w (omega (arith, e .size)) in
-      (k, ap (word qs) (sym (new-old (length ps) r (e .numbers) w)) ∙ e .words (way-back r ps qs e w) k)
-
-  pub one-list : (os : List ℕ) → Renumbered r ps os → qs ≡ os
-  one-list os i = ext-getD 0 qs os (e .size ∙ sym (i .size)) (λ w h.
-      let (k, q) = word-new w h in
-      q ∙ sym (i .words (way-back r ps qs e w) k) ∙ ap (word os) (new-old (length ps) r (e .numbers) w))
-
-  pub same-width : (m : ℕ) → length ps ≤ m → ((v : ℕ) → v < length ps → word ps v < m) → (w : ℕ) → w < length qs → word qs w < m
-  same-width m most below w h = let (k, q) = word-new w h in go (word ps (way-back r ps qs e w)) q (below (way-back r ps qs e w) k)
-    where
-      go : (x : ℕ) → word qs w ≡ r x → x < m → word qs w < m
-      go x q b = inside (decLt x (length ps))
-        where
-          inside : Dec (x < length ps) → word qs w < m
-          inside (yes a) = omega (arith, e .numbers .within x a)
-          inside (no a) = omega (arith, e .numbers .others x (omega arith))
