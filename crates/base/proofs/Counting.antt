@@ -1,14 +1,15 @@
--- How many of a list pass a test: by their places, of a mapped list, of a joined one. Assumes nothing.
+-- How many of a list pass a test: by their places, of a mapped list, of a joined one; none that fails. Assumes nothing.
 use mathlib.Core.Path.{_≡_, refl, sym, ap, _∙_}
 use mathlib.Core.List.{List, [], _∷_, map}
-use mathlib.Core.Bool.{Bool, true, false, cond}
+use mathlib.Core.Bool.{Bool, true, false, not, cond}
 use Prim.Native.Nat.{ℕ, zero, suc, _+_, _≤_, _<_}
 use native.Mathlib.Omega.{arith}
 use native.Mathlib.Numerals.{add-one}
 use native.Mathlib.Decide.{ℕ-discrete}
 use lib.ListN.{length, getD}
-use Rattle.base.specs.Lists.{keep}
+use Rattle.base.specs.Lists.{keep, every}
 use Rattle.base.proofs.Counts.{one, sum}
+use Rattle.base.proofs.Filters.{every-both}
 
 -- how many of a list pass a test
 abbrev pub count {ℓ} : {A : Type ℓ} → (A → Bool) → List A → ℕ
@@ -29,6 +30,25 @@ count-nil test = refl
 pub count-map {ℓ κ} : {A : Type ℓ} {B : Type κ} (test : B → Bool) (f : A → B) (l : List A) → count test (map f l) ≡ count (λ x. test (f x)) l
 count-map test f [] = count-nil test ∙ sym (count-nil (λ x. test (f x)))
 count-map test f (x ∷ l) = omega (arith, count-map test f l, count-cons test (f x) (map f l), count-cons (λ y. test (f y)) x l)
+
+-- all are counted by the test that all pass, and every one passes just where none fails
+pub count-all {ℓ} : {A : Type ℓ} (l : List A) → count (λ x. true) l ≡ length l
+count-all [] = count-nil (λ x. true)
+count-all (x ∷ l) = omega (arith, count-cons (λ y. true) x l, count-all l)
+
+module _ {ℓ} {A : Type ℓ} (test : A → Bool) where
+  pub none-fails : (l : List A) → every test l ≡ true → count (λ x. not (test x)) l ≡ 0
+  none-fails [] e = count-nil (λ x. not (test x))
+  none-fails (x ∷ l) e = let (q, rest) = every-both test x l e in omega (arith, count-cons (λ y. not (test y)) x l, ap (λ t. one (not t)) q, none-fails l rest)
+
+  pub fails-none : (l : List A) → count (λ x. not (test x)) l ≡ 0 → every test l ≡ true
+  unfolding every
+  fails-none [] e = refl
+  fails-none (x ∷ l) e = go (test x) refl (fails-none l)
+    where
+      go : (t : Bool) → test x ≡ t → (count (λ y. not (test y)) l ≡ 0 → every test l ≡ true) → cond t (every test l) false ≡ true
+      go true q ih = ih (omega (arith, count-cons (λ y. not (test y)) x l))
+      go false q ih = absurd (omega (arith, count-cons (λ y. not (test y)) x l, ap (λ t. one (not t)) q))
 
 -- sums from the front, one more, and with nothing more
 sum-front : (n : ℕ) (f : ℕ → ℕ) → sum (suc n) f ≡ f 0 + sum n (λ i. f (suc i))

@@ -1,8 +1,8 @@
 -- Laws of `keep`, `first`, `index`, `every` and `has`: what passes a test, and where the first stands that does. Assumes nothing.
 use mathlib.Core.Path.{_≡_, refl, sym, ap, _∙_}
-use mathlib.Core.List.{List, [], _∷_, _++_, append-nil}
+use mathlib.Core.List.{List, [], _∷_, _++_, map, append-nil}
 use mathlib.Core.Bool.{Bool, true, false, cond}
-use mathlib.Core.Option.{none, some}
+use mathlib.Core.Option.{none, some, Option·map}
 use Prim.Native.Nat.{ℕ, suc, _+_, _≤_, _<_}
 use native.Mathlib.Omega.{arith}
 use native.Mathlib.Nat.{add-zero}
@@ -50,6 +50,30 @@ module _ {ℓ} {A : Type ℓ} (test : A → Bool) where
       go : (t : Bool) → length (keep test l) ≤ length l → length (cond t (x ∷ keep test l) (keep test l)) ≤ suc (length l)
       go true h = omega arith
       go false h = omega arith
+
+  pub every-both : (x : A) (l : List A) → every test (x ∷ l) ≡ true → (test x ≡ true) × (every test l ≡ true)
+  unfolding every
+  every-both x l e = go (test x) refl e
+    where
+      go : (t : Bool) → test x ≡ t → cond t (every test l) false ≡ true → (test x ≡ true) × (every test l ≡ true)
+      go true q e = (q, e)
+      go false q e = clash e
+
+-- of a list whose every one is mapped: whether one passes, and the first that does
+module _ {ℓ κ} {A : Type ℓ} {B : Type κ} (f : A → B) (old : A → Bool) (new : B → Bool) (alike : (x : A) → new (f x) ≡ old x) where
+  pub some-map : (l : List A) → some? new (map f l) ≡ some? old l
+  unfolding some?
+  some-map [] = refl
+  some-map (x ∷ l) = rw (alike x, some-map l)
+
+  pub first-map : (l : List A) → first new (map f l) ≡ Option·map f (first old l)
+  unfolding first
+  first-map [] = refl
+  first-map (x ∷ l) = rw (alike x) (go (old x) (first-map l))
+    where
+      go : (t : Bool) → first new (map f l) ≡ Option·map f (first old l) → cond t (some (f x)) (first new (map f l)) ≡ Option·map f (cond t (some x) (first old l))
+      go true ih = refl
+      go false ih = ih
 
 -- what holds of all that stand in a list holds of every one of it
 pub times-all : (P : ℕ → Type 0) (l : List ℕ) → ((x : ℕ) → 1 ≤ times x l → P x) → All P l

@@ -6,7 +6,6 @@ pub mod Counting
 pub mod Places
 pub mod Filters
 pub mod Singles
-pub mod Mapped
 pub mod Joins
 pub mod Rows
 pub mod Views

@@ -1,5 +1,6 @@
 -- Laws of `specs/Lists.antt`, and of what stands at a place of a list. Assumes nothing.
 use mathlib.Core.Path.{_≡_, refl, sym, ap, ap₂, subst, _∙_}
+use mathlib.Core.Logic.{_↔_}
 use mathlib.Core.List.{List, [], _∷_, _++_, map}
 use mathlib.Core.Bool.{Bool, true, false, cond}
 use mathlib.Core.Option.{Option, none, some, Option·none-ne-some}
@@ -14,6 +15,12 @@ use Rattle.base.specs.Lists.{each, below, first, index, places}
 -- no truth value is both
 pub clash : {A : Type 0} → _≡_ {A = Bool} false true → A
 clash e = absurd (let z : _≡_ {A = ℕ} 0 1 = cc in omega arith)
+
+-- two truth values that come to the same
+pub same-truth : (a b : Bool) → (a ≡ true) ↔ (b ≡ true) → a ≡ b
+same-truth true b h = sym (h .0 refl)
+same-truth false true h = h .1 refl
+same-truth false false h = refl
 
 -- what stands at a place of a list, or past its end
 pub at-in : (l : List ℕ) (i : ℕ) → i < length l → getElem? l i ≡ some (getD l i 0)

@@ -13,7 +13,10 @@ use Rattle.base.specs.Numbers.{Outcome, accepted}
 use Rattle.base.specs.Amounts.{mostRate, mostSum}
 use Rattle.base.proofs.Counts.{times, times-append}
 use Rattle.base.proofs.Filters.{has-times, times-has}
+use Rattle.base.specs.Limits.{topMark}
 use Rattle.tree.specs.Level.{RatingClass}
+use Rattle.tree.specs.Faults.{Tree}
+use Rattle.tree.specs.Questions.{ratingOf}
 use Rattle.tree.proofs.Meanings.{rating-class}
 use Rattle.table.specs.Preparing.{Prepared}
 use Rattle.answers.specs.Answers.{answerTo}
@@ -86,10 +89,17 @@ module _ (rates : List ℕ) (sum : ℤ) (o : Outcome) where
     pub price-numbers : has (ns ++ (11 ∷ 12 ∷ [])) (priceOf rates sum o .number) ≡ true
     price-numbers = case-numbers (priceOf rates sum o) cases
 
--- on a table prepared from a list: where the rate of the class u of an entry is legal, every legal sum has its premium, at u's rate
+-- on a prepared table the price is what it means on the list
+pub premium-right : (ps t rates : List ℕ) (v d : ℕ) (sum : ℤ) → Prepared ps t → price (quoteTo t rates v d sum) ≡ priceOf rates sum (ratingOf ps v d)
+unfolding quoteTo answerTo
+premium-right ps t rates v d sum p = ap (priceOf rates sum) (rating-right ps t p v d)
+
+-- where the rate of the class u of an entry is legal, every legal sum has its premium, at u's rate
+module _ (ps rates : List ℕ) (sum : ℤ) (v d u : ℕ) (listed : u < length rates) (limit : getD rates u 0 ≤ mostRate) (legal : natAbs sum ≤ mostSum) where
+  pub rated-premium : length ps ≤ topMark → Tree ps → RatingClass ps v d u → priceOf rates sum (ratingOf ps v d) ≡ costing (accepted u) (premium sum (getD rates u 0))
+  rated-premium small tree c = ap (priceOf rates sum) (rating-class ps small tree v d u c) ∙ paid-is rates sum (accepted u) (record { found = refl; listed = listed; limit = limit }) legal
+
+-- and so on a table prepared from the list
 pub prepared-premium : (ps t rates : List ℕ) (sum : ℤ) (v d u : ℕ) → Prepared ps t → RatingClass ps v d u → u < length rates → getD rates u 0 ≤ mostRate → natAbs sum ≤ mostSum
     → price (quoteTo t rates v d sum) ≡ costing (accepted u) (premium sum (getD rates u 0))
-unfolding quoteTo answerTo
-prepared-premium ps t rates sum v d u p c h k s =
-    ap (priceOf rates sum) (rating-right ps t p v d ∙ rating-class ps (small ps t p) (tree ps t p) v d u c)
-    ∙ paid-is rates sum (accepted u) (record { found = refl; listed = h; limit = k }) s
+prepared-premium ps t rates sum v d u p c h k s = premium-right ps t rates v d sum p ∙ rated-premium ps rates sum v d u h k s (small ps t p) (tree ps t p) c

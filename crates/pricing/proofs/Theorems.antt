@@ -1,5 +1,5 @@
 -- The promise of an accepted sheet, and the numbers of a price. Assumes nothing.
-use mathlib.Core.Path.{_≡_, refl, sym, ap, _∙_}
+use mathlib.Core.Path.{_≡_, refl, ap, _∙_}
 use mathlib.Core.Bool.{true}
 use mathlib.Core.List.{List, [], _∷_}
 use mathlib.Core.Option.{Option, none, some}
@@ -10,24 +10,25 @@ use lib.ListN.{length}
 use lib.IntN.{ℤ, natAbs}
 use Rattle.base.specs.Lists.{has, some?}
 use Rattle.base.specs.Numbers.{Outcome, accepted}
+use Rattle.base.specs.Limits.{topMark}
 use Rattle.base.specs.Amounts.{mostSum}
 use Rattle.base.proofs.Counts.{times}
 use Rattle.base.proofs.Filters.{has-times, times-has}
-use Rattle.tree.specs.Level.{RatingClass}
+use Rattle.tree.specs.Faults.{Tree}
 use Rattle.tree.specs.Questions.{ratingOf}
 use Rattle.tree.proofs.Meanings.{rating-class, rating-depth, has-class}
 use Rattle.table.specs.Preparing.{Prepared}
 use Rattle.answers.specs.Answers.{answerTo}
 use Rattle.climbs.proofs.TableWords.{small, tree}
 use Rattle.climbs.proofs.Questions.{rating-right}
-use Rattle.money.specs.Premium.{premium}
-use Rattle.bands.specs.Bands.{Band, holds, covers, bandOf}
+use Rattle.bands.specs.Bands.{Band, bandOf}
 use Rattle.bands.proofs.Theorems.{accepted-band}
 use Rattle.sheets.specs.Texts.{sheetOf, bandsIn}
 use Rattle.sheets.specs.Verdicts.{verdict, depthsOf, checkTo, bandsOn, Good}
 use Rattle.sheets.specs.declared.Verdict.{Verdict}
-use Rattle.sheets.proofs.Theorems.{good-verdict, accepted-good, check-right, depths-right, covered-iff}
-use Rattle.pricing.specs.Quotes.{costing, classPrice, sheetPrice, price, looked, priceTo, priceOn}
+use Rattle.sheets.proofs.Theorems.{good-verdict, check-right, checked-good, depths-right, covered-iff}
+use Rattle.pricing.specs.Promises.{Priced}
+use Rattle.pricing.specs.Quotes.{classPrice, sheetPrice, price, looked, priceTo, priceOn}
 use Rattle.pricing.proofs.SheetPrices.{class-outside, class-unheld, class-held, price-unfound, price-refused, price-found}
 
 -- on a prepared table the price is what it means on the list
@@ -46,40 +47,27 @@ good-price ps text v d sum u g e =
     ∙ price-found (verdict (depthsOf ps) d text) (bandsIn (sheetOf (depthsOf ps) d text)) sum (accepted u) refl (ap (λ w. w .number) (good-verdict (depthsOf ps) d text g))
     ∙ ap (λ s. classPrice (bandsIn s) sum u) (g .lines)
 
--- "Each accepted sheet then prices every legal sum .. at the rate of the band that holds it": a sheet that the check accepts on a table prepared from a list gives every entry
--- and every legal sum number 0, the entry's class, and the cents at the rate of the one band of that class that holds the sum's size
-pub record Priced (ps t text : List ℕ) (v d : ℕ) (sum : ℤ) : Type 0 where
-  pub class : ℕ
-  pub rated : RatingClass ps v d class
-  pub sheet : Good (depthsOf ps) d text
-  pub band : Band
-  pub held : holds class (natAbs sum) band ≡ true
-  pub only : covers (sheet .bands) class (natAbs sum) ≡ 1
-  pub found : bandOf (sheet .bands) class (natAbs sum) ≡ some band
-  pub priced : price (priceTo t text v d sum) ≡ costing (accepted class) (premium sum (band .rate))
+-- so every entry and every legal sum has its price by a good sheet
+pub good-prices : (ps text : List ℕ) (v d : ℕ) (sum : ℤ) → length ps ≤ topMark → Tree ps → v < length ps → Good (depthsOf ps) d text → natAbs sum ≤ mostSum → Priced ps text v d sum (priceOn ps text v d sum)
+good-prices ps text v d sum small tree known g legal =
+    let (u, c) = has-class ps small tree v d known in
+    let covered = covered-iff ps d u .1 (rating-depth ps small tree v d u c) in
+    let (b, e, h) = accepted-band (depthsOf ps) d (g .bands) (g .once) u covered (natAbs sum) legal in
+    record {
+      class = u;
+      rated = c;
+      sheet = g;
+      band = b;
+      held = h;
+      only = g .once .once u covered (natAbs sum) legal;
+      found = e;
+      priced = good-price ps text v d sum u g (rating-class ps small tree v d u c) ∙ class-held (g .bands) sum u legal b e;
+    }
 
-module _ (ps t text : List ℕ) (v d : ℕ) (sum : ℤ) (p : Prepared ps t) (known : v < length ps) (ok : checkTo t d text .number ≡ 0) (legal : natAbs sum ≤ mostSum) where
-  good : Good (depthsOf ps) d text
-  good = accepted-good (depthsOf ps) d text .0 (sym (ap (λ w. w .number) (check-right ps t p d text)) ∙ ok)
-
-  pub accepted-prices : Priced ps t text v d sum
-  accepted-prices =
-      let (u, c) = has-class ps (small ps t p) (tree ps t p) v d known in
-      let covered = covered-iff ps d u .1 (rating-depth ps (small ps t p) (tree ps t p) v d u c) in
-      let (b, e, h) = accepted-band (depthsOf ps) d (good .bands) (good .once) u covered (natAbs sum) legal in
-      record {
-        class = u;
-        rated = c;
-        sheet = good;
-        band = b;
-        held = h;
-        only = good .once .once u covered (natAbs sum) legal;
-        found = e;
-        priced =
-            price-right ps t text v d sum p
-            ∙ good-price ps text v d sum u good (rating-class ps (small ps t p) (tree ps t p) v d u c)
-            ∙ class-held (good .bands) sum u legal b e;
-      }
+-- and on a table prepared from the list, where the check accepts the sheet
+pub accepted-prices : (ps t text : List ℕ) (v d : ℕ) (sum : ℤ) → Prepared ps t → v < length ps → checkTo t d text .number ≡ 0 → natAbs sum ≤ mostSum → Priced ps text v d sum (price (priceTo t text v d sum))
+accepted-prices ps t text v d sum p known ok legal =
+    rw (price-right ps t text v d sum p) (good-prices ps text v d sum (small ps t p) (tree ps t p) known (checked-good ps t p d text .0 ok) legal)
 
 -- the numbers
 class-numbers : (bs : List Band) (sum : ℤ) (c : ℕ) → has (0 ∷ 12 ∷ 14 ∷ []) (classPrice bs sum c .number) ≡ true

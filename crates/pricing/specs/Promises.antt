@@ -1,19 +1,24 @@
 -- What a question with a sheet promises of its quote r on a table t of any contents, beside what `answers` has of its answer: one definition a clause. Assumes nothing.
 use mathlib.Core.Path.{_≡_}
 use mathlib.Core.List.{List, [], _∷_}
+use mathlib.Core.Bool.{true}
+use mathlib.Core.Option.{some}
 use Prim.Native.Nat.{ℕ, _<_}
 use lib.ListN.{length}
-use lib.IntN.{ℤ}
+use lib.IntN.{ℤ, natAbs}
 use Rattle.base.specs.Limits.{depthCell}
+use Rattle.base.specs.Numbers.{accepted}
+use Rattle.tree.specs.Level.{RatingClass}
 use Rattle.table.specs.Preparing.{Prepared}
 use Rattle.answers.specs.Reading.{wordAt}
 use Rattle.answers.specs.Answers.{SameAt, outcome, answerWords}
 use Rattle.answers.specs.Promises.{Gives, Few}
 use Rattle.query.specs.StepOne.{stepOne}
-use Rattle.bands.specs.Bands.{Band}
-use Rattle.sheets.specs.Verdicts.{naming, checkTo, bandsOn}
+use Rattle.money.specs.Premium.{premium}
+use Rattle.bands.specs.Bands.{Band, holds, covers, bandOf}
+use Rattle.sheets.specs.Verdicts.{naming, depthsOf, checkTo, bandsOn, Good}
 use Rattle.sheets.specs.Checked.{levelIn, Checked}
-use Rattle.pricing.specs.Quotes.{refusing, classPrice, quoted, price, moneyOf, looked, priceTo}
+use Rattle.pricing.specs.Quotes.{costing, refusing, classPrice, quoted, price, moneyOf, looked, priceTo}
 use Rattle.pricing.specs.Parts.{Offer}
 use Rattle.pricing.specs.declared.prices.SheetPrice.{SheetPrice}
 use Rattle.pricing.specs.declared.BandQuote.{BandQuote}
@@ -38,6 +43,18 @@ Local text v d sum t r = (u : List ℕ) → length u ≡ length t → SameAt (r 
 -- for every list from which the table is prepared, the price is what the question means on that list
 abbrev pub Right : (List ℕ → SheetPrice) → List ℕ → BandQuote → Type 0
 Right meaning t r = (ps : List ℕ) → Prepared ps t → price r ≡ meaning ps
+
+-- "Each accepted sheet then prices every legal sum .. at the rate of the band that holds it": the price of an entry by a sheet that is good for the list has number 0, the
+-- entry's class, and the cents at the rate of the one band of that class that holds the sum's size
+pub record Priced (ps text : List ℕ) (v d : ℕ) (sum : ℤ) (p : SheetPrice) : Type 0 where
+  pub class : ℕ
+  pub rated : RatingClass ps v d class
+  pub sheet : Good (depthsOf ps) d text
+  pub band : Band
+  pub held : holds class (natAbs sum) band ≡ true
+  pub only : covers (sheet .bands) class (natAbs sum) ≡ 1
+  pub found : bandOf (sheet .bands) class (natAbs sum) ≡ some band
+  pub priced : p ≡ costing (accepted class) (premium sum (band .rate))
 
 -- What a quotation from the words of a sheet promises. Where they are those of a sheet that the check accepts, on the table for which it does, it is the price by that sheet's
 -- text; where they are those of a checked sheet, the price of the lookup's class by its bands, on any table. Whatever they hold, its cells are the rating lookup's at the level

@@ -17,7 +17,7 @@ use Rattle.base.specs.Limits.{topMark, tableWords, spaceWords}
 use Rattle.base.proofs.Lists.{first-none, none-first, places-one}
 use Rattle.base.proofs.Counts.{times}
 use Rattle.base.proofs.Places.{times-same, times-other}
-use Rattle.base.proofs.Mapped.{some-map}
+use Rattle.base.proofs.Filters.{some-map}
 use Rattle.tree.specs.Parents.{word, children}
 use Rattle.tree.specs.Faults.{lowest, isStray, strayFault, topsFault, meetsTop, loopFault, listFault}
 use Rattle.tree.proofs.Forests.{child-of, of-child}
@@ -34,13 +34,7 @@ abbrev numberOf : Option Outcome → ℕ
 numberOf none = 0
 numberOf (some o) = o .number
 
--- refusals of one number, on both sides or on none; and one before another
-mapped-number : (f : ℕ → Outcome) (k : ℕ) → ((v : ℕ) → f v .number ≡ k) → (a b : Option ℕ) → (a ≡ none) ↔ (b ≡ none) → numberOf (Option·map f b) ≡ numberOf (Option·map f a)
-mapped-number f k only none none h = refl
-mapped-number f k only none (some w) h = absurd (Option·some-ne-none w (h .0 refl))
-mapped-number f k only (some v) none h = absurd (Option·some-ne-none v (h .1 refl))
-mapped-number f k only (some v) (some w) h = only w ∙ sym (only v)
-
+-- refusals of one number, on both sides or on none, before others
 or-number : (f : ℕ → Outcome) (k : ℕ) → ((v : ℕ) → f v .number ≡ k) → (a b : Option ℕ) (x y : Option Outcome) → (a ≡ none) ↔ (b ≡ none) → numberOf y ≡ numberOf x
     → numberOf (orElse (Option·map f b) y) ≡ numberOf (orElse (Option·map f a) x)
 unfolding orElse
@@ -131,9 +125,15 @@ module _ (r : ℕ → ℕ) (ps qs : List ℕ) (e : Renumbered r ps qs) where
     tops-new q = let (t, alone) = tops-one (length ps) (children ps topMark) q in ap (secondTop (length qs)) (one-top t alone)
 
 -- so the first fault of the lists has the same number
-list-faults : (ps : List ℕ) → listFault ps ≡ orElse (Option·map stray (lowest ps (isStray ps))) (orElse (Option·map tops (secondTop (length ps) (children ps topMark))) (Option·map loop (lowest ps (λ v. not (meetsTop ps v)))))
+or-none : (o : Option Outcome) → o ≡ orElse o none
+unfolding orElse
+or-none none = refl
+or-none (some o) = refl
+
+list-faults : (ps : List ℕ)
+    → listFault ps ≡ orElse (Option·map stray (lowest ps (isStray ps))) (orElse (Option·map tops (secondTop (length ps) (children ps topMark))) (orElse (Option·map loop (lowest ps (λ v. not (meetsTop ps v)))) none))
 unfolding listFault
-list-faults ps = ap (λ o. orElse (strayFault ps) (orElse o (loopFault ps))) (tops-mapped (length ps) (children ps topMark))
+list-faults ps = ap (λ o. orElse (strayFault ps) (orElse o (loopFault ps))) (tops-mapped (length ps) (children ps topMark)) ∙ ap (λ o. orElse (strayFault ps) (orElse (Option·map tops (secondTop (length ps) (children ps topMark))) o)) (or-none (loopFault ps))
 
 fault-number : (r : ℕ → ℕ) (ps qs : List ℕ) → Renumbered r ps qs → length ps ≤ topMark → numberOf (listFault qs) ≡ numberOf (listFault ps)
 fault-number r ps qs e small =
@@ -141,8 +141,8 @@ fault-number r ps qs e small =
     ∙ or-number stray 4 (λ v. refl) (lowest ps (isStray ps)) (lowest qs (isStray qs)) _ _ (lowest-none r ps qs e (isStray ps) (isStray qs) (stray-new r ps qs e small))
     (or-number tops 5 (λ v. refl) (secondTop (length ps) (children ps topMark)) (secondTop (length qs) (children qs topMark)) _ _
     (tops-new r ps qs e small, tops-new (way-back r ps qs e) qs ps (flipped r ps qs e) (omega (arith, e .size)))
-    (mapped-number loop 6 (λ v. refl) (lowest ps (λ v. not (meetsTop ps v))) (lowest qs (λ v. not (meetsTop qs v)))
-    (lowest-none r ps qs e (λ v. not (meetsTop ps v)) (λ v. not (meetsTop qs v)) (λ v h. ap not (meets-new r ps qs e small v)))))
+    (or-number loop 6 (λ v. refl) (lowest ps (λ v. not (meetsTop ps v))) (lowest qs (λ v. not (meetsTop qs v))) none none
+    (lowest-none r ps qs e (λ v. not (meetsTop ps v)) (λ v. not (meetsTop qs v)) (λ v h. ap not (meets-new r ps qs e small v))) refl))
     ∙ ap numberOf (sym (list-faults ps))
 
 -- with table and space long enough, only the count and the list's faults are left

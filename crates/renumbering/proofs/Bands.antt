@@ -6,7 +6,7 @@ use mathlib.Core.Option.{Option·map}
 use Prim.Native.Nat.{ℕ}
 use lib.Dec.{leb}
 use Rattle.base.proofs.Counting.{count, count-map}
-use Rattle.base.proofs.Mapped.{first-map}
+use Rattle.base.proofs.Filters.{first-map}
 use Rattle.bands.specs.Bands.{Band, holds, covers, bandOf, SameBands}
 use Rattle.bands.proofs.SameBands.{covers-same, band-same}
 use Rattle.renumbering.specs.Numbering.{Renumbering}

@@ -5,5 +5,6 @@ pub mod Acceptance
 pub mod Meanings
 pub mod Bands
 pub mod Sheets
+pub mod Texts
 pub mod Prices
 pub mod Theorems

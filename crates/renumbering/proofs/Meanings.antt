@@ -12,7 +12,7 @@ use borrow.Author.Tests.{le-leb, lt-leb}
 use Rattle.base.specs.Lists.{first, has}
 use Rattle.base.specs.Numbers.{Outcome, accepted, unknown, tooDeep, notAbove}
 use Rattle.base.specs.Limits.{topMark}
-use Rattle.base.proofs.Mapped.{some-map}
+use Rattle.base.proofs.Filters.{some-map}
 use Rattle.tree.specs.Parents.{up, climb, children}
 use Rattle.tree.specs.Level.{levelAncestor}
 use Rattle.tree.specs.Faults.{Tree}

@@ -4,14 +4,14 @@ use mathlib.Core.List.{List}
 use Prim.Native.Nat.{ℕ, _≤_, _<_}
 use native.Mathlib.Omega.{arith}
 use native.Mathlib.Decide.{ℕ-discrete, decLt}
-use lib.ListN.{length}
+use lib.ListN.{length, getD}
 use lib.Seq.{ext-getD}
 use lib.Dec.{eqb}
 use borrow.Author.Tests.{eq-eqb, ne-eqb}
 use Rattle.base.specs.Lists.{below}
 use Rattle.base.proofs.Lists.{below-at, each-length}
 use Rattle.tree.specs.Parents.{word}
-use Rattle.renumbering.specs.Numbering.{Renumbering, Renumbered}
+use Rattle.renumbering.specs.Numbering.{Renumbering, Renumbered, SameRates}
 
 module _ (n : ℕ) (r : ℕ → ℕ) (p : Renumbering n r) where
   -- what has a new number below n is an entry
@@ -102,7 +102,7 @@ module _ (r : ℕ → ℕ) (ps qs : List ℕ) (e : Renumbered r ps qs) where
   pub same-width : (m : ℕ) → length ps ≤ m → ((v : ℕ) → v < length ps → word ps v < m) → (w : ℕ) → w < length qs → word qs w < m
   same-width m most below w h = let (k, q) = word-new w h in omega (arith, new-below m (word ps (way-back w)) most (below (way-back w) k))
 
--- every list has its renumbered list
+-- every list has its renumbered list, and every list of rates
 pub every-list : (r : ℕ → ℕ) (ps : List ℕ) → Renumbering (length ps) r → (qs : List ℕ) × Renumbered r ps qs
 every-list r ps p =
     let old : ℕ → ℕ = old (length ps) r p in (
@@ -111,5 +111,16 @@ every-list r ps p =
         numbers = p;
         size = each-length (length ps) 0 (λ w. r (word ps (old w)));
         words = λ v h. below-at (length ps) (λ w. r (word ps (old w))) 0 (r v) (p .within v h) ∙ ap (λ x. r (word ps x)) (old-new (length ps) r p v);
+      },
+    )
+
+pub every-rates : (r : ℕ → ℕ) (n : ℕ) (rates : List ℕ) → Renumbering n r → length rates ≡ n → (others : List ℕ) × SameRates r n rates others
+every-rates r n rates p size =
+    let old : ℕ → ℕ = old n r p in (
+      below n (λ w. getD rates (old w) 0),
+      record {
+        size = size;
+        other-size = each-length n 0 (λ w. getD rates (old w) 0);
+        words = λ v h. below-at n (λ w. getD rates (old w) 0) 0 (r v) (p .within v h) ∙ ap (λ x. getD rates x 0) (old-new n r p v);
       },
     )

@@ -10,7 +10,9 @@ use lib.Dec.{leb}
 use borrow.Author.Tests.{le-leb, leb-true}
 use Rattle.base.specs.Lists.{every}
 use Rattle.base.specs.Amounts.{mostLines, mostSum, mostRate}
-use Rattle.base.proofs.Mapped.{same-truth, every-both, none-fails, fails-none, count-all}
+use Rattle.base.proofs.Lists.{same-truth}
+use Rattle.base.proofs.Filters.{every-both}
+use Rattle.base.proofs.Counting.{none-fails, fails-none, count-all}
 use Rattle.bands.specs.Bands.{Band, isClass, isBand, covers}
 use Rattle.lines.specs.Text.{lineFeed}
 use Rattle.lines.specs.Fields.{parted}
@@ -26,7 +28,7 @@ use Rattle.renumbering.proofs.Climbs.{new-in, depth-new}
 use Rattle.renumbering.proofs.Bands.{count-renumbered, covers-new, same-back}
 
 -- a text whose lines state bands: it is a sheet of these, where each is one that a line may state and they are no more than a sheet may have
-stated-line : (l m : List ℕ) (ls : List (List ℕ)) → statedBy (l ∷ m ∷ ls) ≡ bind (bandLine l) (λ b. Option·map (_∷_ b) (statedBy (m ∷ ls)))
+pub stated-line : (l m : List ℕ) (ls : List (List ℕ)) → statedBy (l ∷ m ∷ ls) ≡ bind (bandLine l) (λ b. Option·map (_∷_ b) (statedBy (m ∷ ls)))
 unfolding statedBy
 stated-line [] m ls = refl
 stated-line (x ∷ l) m ls = refl

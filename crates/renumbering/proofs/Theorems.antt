@@ -1,6 +1,5 @@
 -- The theorems of 2026-06: `specs/Statements` has what they say. Assumes nothing.
 use mathlib.Core.Path.{_≡_, refl, sym, ap, _∙_}
-use mathlib.Core.Logic.{_↔_}
 use mathlib.Core.List.{List}
 use Prim.Native.Nat.{ℕ, _≤_, _<_}
 use native.Mathlib.Omega.{arith}
@@ -12,17 +11,17 @@ use Rattle.base.specs.Limits.{topMark}
 use Rattle.tree.specs.Faults.{Tree}
 use Rattle.tree.specs.Questions.{ratingOf}
 use Rattle.tree.proofs.Meanings.{rating-unknown, rating-class, rating-depth, has-class}
-use Rattle.table.specs.Preparing.{Prepared}
 use Rattle.answers.specs.Reading.{Reading, Within, run}
 use Rattle.answers.specs.Answers.{answerTo}
 use Rattle.answers.proofs.Bounds.{level-within, climbing-within, rating-within, ancestry-within, branch-within}
 use Rattle.answers.proofs.ProgramAnswers.{few}
 use Rattle.climbs.proofs.TableWords.{small, tree}
 use Rattle.climbs.proofs.Questions.{level-right, climb-right, rating-right, ancestry-right, branch-right}
-use Rattle.premiums.specs.Quotes.{priceOf, price, quoteTo}
-use Rattle.sheets.specs.Verdicts.{naming, verdict, depthsOf, checkTo, Good}
+use Rattle.premiums.specs.Quotes.{priceOf}
+use Rattle.premiums.proofs.Theorems.{premium-right}
+use Rattle.sheets.specs.Verdicts.{naming, verdict, depthsOf, Good}
 use Rattle.sheets.specs.Texts.{sheetOf, bandsIn}
-use Rattle.sheets.proofs.Theorems.{accepted-good, check-right, covered-iff}
+use Rattle.sheets.proofs.Theorems.{checked-good, covered-iff}
 use Rattle.bands.specs.Bands.{covers}
 use Rattle.pricing.specs.Quotes.{refusing, classPrice, sheetPrice, priceOn}
 use Rattle.pricing.proofs.SheetPrices.{price-unfound}
@@ -30,11 +29,12 @@ use Rattle.pricing.proofs.Theorems.{price-right, good-price}
 use Rattle.renumbering.specs.Numbering.{Renumbered, SameRates}
 use Rattle.renumbering.specs.Sheets.{SameSheets}
 use Rattle.renumbering.specs.Alike.{SameClass, SameRelation, SamePrice, SameSheetPrice}
-use Rattle.renumbering.specs.Statements.{EveryList, OneList, SameWidth, Acceptance, Classes, Premiums, AcceptedStates, SheetAcceptance, Prices}
+use Rattle.renumbering.specs.Statements.{EveryList, OneList, SameWidth, EveryRates, Acceptance, Classes, Premiums, EverySheet, SheetAcceptance, Prices}
 use Rattle.renumbering.proofs.Numbers as numbers
 use Rattle.renumbering.proofs.Acceptance as acceptance
 use Rattle.renumbering.proofs.Meanings.{renamed, class-new, climbing-new, rating-new, ancestry-new, branch-new}
-use Rattle.renumbering.proofs.Sheets.{good-states, good-stated, good-new, sheets-back}
+use Rattle.renumbering.proofs.Sheets.{good-stated, good-new, sheets-back}
+use Rattle.renumbering.proofs.Texts as texts
 use Rattle.renumbering.proofs.Prices.{rates-alike, refusing-alike, bands-alike}
 
 pub every-list : EveryList
@@ -45,6 +45,9 @@ one-list r ps qs os a b = numbers.one-list r ps qs a os b
 
 pub same-width : SameWidth
 same-width = numbers.same-width
+
+pub every-rates : EveryRates
+every-rates = numbers.every-rates
 
 pub one-acceptance : Acceptance
 one-acceptance = acceptance.acceptance
@@ -120,20 +123,13 @@ module _ (r : ℕ → ℕ) (ps qs : List ℕ) (e : Renumbered r ps qs) (few : le
           (bands-alike r (length ps) (e .numbers) (s .bands) (s .other-bands) (s .alike) sum u (λ a k. ap (λ l. covers l u a) (sym z) ∙ g .once .once u covered a k))
 
 -- the same of the prepared tables
-premium-is : (ps t : List ℕ) → Prepared ps t → (rates : List ℕ) (v d : ℕ) (sum : ℤ) → price (quoteTo t rates v d sum) ≡ priceOf rates sum (ratingOf ps v d)
-unfolding quoteTo answerTo
-premium-is ps t p rates v d sum = ap (priceOf rates sum) (rating-right ps t p v d)
-
 pub premiums : Premiums
 premiums r ps qs t u rates others w same v d sum =
-    rw (premium-is ps t (w .first) rates v d sum, premium-is qs u (w .second) others (r v) d sum)
+    rw (premium-right ps t rates v d sum (w .first), premium-right qs u others (r v) d sum (w .second))
     (premium-alike r ps qs (w .lists) (small ps t (w .first)) (tree ps t (w .first)) v d rates others same sum)
 
-checked-good : (ps t : List ℕ) → Prepared ps t → (d : ℕ) (text : List ℕ) → checkTo t d text .number ≡ 0 ↔ Good (depthsOf ps) d text
-checked-good ps t p d text = rw (check-right ps t p d text) (accepted-good (depthsOf ps) d text)
-
-pub accepted-states : AcceptedStates
-accepted-states ps t text p d z = let g = checked-good ps t p d text .0 z in (g .bands, good-states (depthsOf ps) d text g .0)
+pub every-sheet : EverySheet
+every-sheet r ps t text n p d z = texts.every-sheet r ps n (omega (arith, small ps t p)) d text (checked-good ps t p d text .0 z)
 
 pub sheet-acceptance : SheetAcceptance
 sheet-acceptance r ps qs t u text other w s d = (

@@ -1,9 +1,8 @@
 -- The theorems of 2026-06, as statements: `proofs/Theorems` proves each. They are about what the code answers: the definitions are those that clause `answer` of preparing, of
--- the questions, of the premium and of the price names. Assumes nothing.
+-- the questions, of the premium, of the check and of the price names. Assumes nothing.
 use mathlib.Core.Path.{_≡_}
 use mathlib.Core.Logic.{_↔_}
 use mathlib.Core.List.{List}
-use mathlib.Core.Option.{some}
 use Prim.Native.Nat.{ℕ, _≤_, _<_}
 use lib.ListN.{length}
 use lib.IntN.{ℤ}
@@ -12,12 +11,11 @@ use Rattle.tree.specs.Parents.{word}
 use Rattle.table.specs.Preparing.{Accepted, Prepared, preparing}
 use Rattle.answers.specs.Answers.{answerTo}
 use Rattle.answers.specs.Steps.{level, climbing, rating, ancestry, branch}
-use Rattle.bands.specs.Bands.{Band}
 use Rattle.premiums.specs.Quotes.{price, quoteTo}
 use Rattle.sheets.specs.Verdicts.{checkTo}
 use Rattle.pricing.specs.Quotes.{priceTo, price as sheetPrice}
 use Rattle.renumbering.specs.Numbering.{Renumbering, Renumbered, SameRates}
-use Rattle.renumbering.specs.Sheets.{stated, SameSheets}
+use Rattle.renumbering.specs.Sheets.{SameSheets}
 use Rattle.renumbering.specs.Alike.{SameClass, SameRelation, SamePrice, SameSheetPrice}
 
 -- every list has its renumbered list under every renumbering, and has only one
@@ -30,6 +28,10 @@ OneList = (r : ℕ → ℕ) (ps qs os : List ℕ) → Renumbered r ps qs → Ren
 -- its words are below m where those of the first list are: of 32 bits, say
 abbrev pub SameWidth : Type 0
 SameWidth = (r : ℕ → ℕ) (ps qs : List ℕ) → Renumbered r ps qs → (m : ℕ) → length ps ≤ m → ((v : ℕ) → v < length ps → word ps v < m) → (w : ℕ) → w < length qs → word qs w < m
+
+-- so has every list of n rates
+abbrev pub EveryRates : Type 0
+EveryRates = (r : ℕ → ℕ) (n : ℕ) (rates : List ℕ) → Renumbering n r → length rates ≡ n → (others : List ℕ) × SameRates r n rates others
 
 -- a table and a space of these lengths are long enough for n entries
 pub record Room (n table space : ℕ) : Type 0 where
@@ -68,9 +70,9 @@ Premiums =
     (r : ℕ → ℕ) (ps qs t u rates others : List ℕ) → TwoTables r ps qs t u → SameRates r (length ps) rates others
     → (v d : ℕ) (sum : ℤ) → SamePrice r (price (quoteTo t rates v d sum)) (price (quoteTo u others (r v) d sum))
 
--- every accepted sheet states its bands, so that it is one of those that can be renumbered
-abbrev pub AcceptedStates : Type 0
-AcceptedStates = (ps t text : List ℕ) → Prepared ps t → (d : ℕ) → checkTo t d text .number ≡ 0 → (bs : List Band) × (stated text ≡ some bs)
+-- every accepted sheet has a sheet that is renumbered alike, under every renumbering
+abbrev pub EverySheet : Type 0
+EverySheet = (r : ℕ → ℕ) (ps t text : List ℕ) → Renumbering (length ps) r → Prepared ps t → (d : ℕ) → checkTo t d text .number ≡ 0 → (other : List ℕ) × SameSheets r text other
 
 -- "and for accepted sheets of bands": one sheet is accepted just where the other is, and then each price is the same
 abbrev pub SheetAcceptance : Type 0

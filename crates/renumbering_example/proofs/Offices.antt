@@ -1,17 +1,17 @@
 -- Two offices are told the same premium, and where the list forms the tree it is paid. Assumes nothing.
-use mathlib.Core.Path.{_≡_, refl, sym, ap, _∙_}
+use mathlib.Core.Path.{_≡_, refl, sym, ap}
 use mathlib.Core.List.{List, _++_}
 use mathlib.Core.Option.{none, Option·elim}
 use Prim.Native.Nat.{ℕ, _≤_}
 use native.Mathlib.Omega.{arith}
 use lib.ListN.{length, drop}
 use lib.IntN.{ℤ, natAbs}
-use Rattle.base.specs.Numbers.{Outcome, accepted, Says}
+use Rattle.base.specs.Numbers.{Outcome, Says}
 use Rattle.base.specs.Limits.{topMark, tableWords}
 use Rattle.base.specs.Amounts.{mostSum}
 use Rattle.tree.specs.Faults.{Tree}
 use Rattle.tree.specs.Questions.{ratingOf}
-use Rattle.tree.proofs.Meanings.{has-class, rating-class, rating-depth}
+use Rattle.tree.proofs.Meanings.{has-class}
 use Rattle.table.specs.Table.{tableOf}
 use Rattle.table.specs.Preparing.{Accepted, refusal, preparing, tableAfter}
 use Rattle.table.proofs.Acceptance.{accepted-iff}
@@ -19,18 +19,16 @@ use Rattle.table.proofs.Outcomes.{zero-iff, refusal-none, accepted-is, refused-
 use Rattle.money.specs.Prices.{refused}
 use Rattle.money.specs.declared.Price.{Price}
 use Rattle.premiums.specs.Quotes.{priceOf}
-use Rattle.premiums.proofs.Theorems.{paid-is}
-use Rattle.bands.proofs.Theorems.{accepted-band}
+use Rattle.premiums.proofs.Theorems.{rated-premium}
 use Rattle.sheets.specs.Verdicts.{naming, depthsOf, Good}
-use Rattle.sheets.proofs.Theorems.{covered-iff}
 use Rattle.pricing.specs.Quotes.{refusing, priceOn}
 use Rattle.pricing.specs.declared.prices.SheetPrice.{SheetPrice}
-use Rattle.pricing.proofs.SheetPrices.{class-held}
-use Rattle.pricing.proofs.Theorems.{good-price}
+use Rattle.pricing.specs.Promises.{Priced}
+use Rattle.pricing.proofs.Theorems.{good-prices}
 use Rattle.renumbering.specs.Alike.{SamePremium, paidOf}
 use Rattle.renumbering.proofs.Theorems.{premium-alike, price-alike}
 use Rattle.renumbering_example.specs.Offices.{Office, premiumFrom, priceFrom}
-use Rattle.renumbering_example.specs.Promises.{SamePremiums, SamePrices, Known, PaidByRate, PaidPremium, PaidByBand, PaidPrice}
+use Rattle.renumbering_example.specs.Promises.{SamePremiums, SamePrices, Known, PaidByRate, PaidPremium, PaidPrice}
 use Rattle.renumbering_example.proofs.Refusals.{both-ways}
 
 -- from what preparing answers to an office's premium
@@ -96,23 +94,12 @@ module _ (o : Office) (d : ℕ) (sum : ℤ) (h : Known o) where
       record {
         class = u;
         rated = c;
-        paid = λ listed limit legal.
-            rw (prepares, rating-class (o .list) small (h .tree) (o .entry) d u c) (paid-is (o .tariff) sum (accepted u) (record { found = refl; listed = listed; limit = limit }) legal);
+        paid = λ listed limit legal. rw prepares (rated-premium (o .list) (o .tariff) sum (o .entry) d u listed limit legal small (h .tree) c);
       }
 
-  paid-price : (g : Good (depthsOf (o .list)) d (o .tariff)) → natAbs sum ≤ mostSum → PaidByBand o (g .bands) d sum (priceFrom o d sum)
+  paid-price : Good (depthsOf (o .list)) d (o .tariff) → natAbs sum ≤ mostSum → Priced (o .list) (o .tariff) (o .entry) d sum (priceFrom o d sum)
   unfolding priceFrom Option·elim
-  paid-price g legal =
-      let (u, c) = has-class (o .list) small (h .tree) (o .entry) d (h .entry) in
-      let covered = covered-iff (o .list) d u .1 (rating-depth (o .list) small (h .tree) (o .entry) d u c) in
-      let (b, found, held) = accepted-band (depthsOf (o .list)) d (g .bands) (g .once) u covered (natAbs sum) legal in
-      record {
-        class = u;
-        rated = c;
-        band = b;
-        found = found;
-        paid = rw prepares (good-price (o .list) (o .tariff) (o .entry) d sum u g (rating-class (o .list) small (h .tree) (o .entry) d u c) ∙ class-held (g .bands) sum u legal b found);
-      }
+  paid-price g legal = rw prepares (good-prices (o .list) (o .tariff) (o .entry) d sum small (h .tree) (h .entry) g legal)
 
 -- what is promised of both, where they are the offices'
 module _ (x y : Office) (d : ℕ) (sum : ℤ) where

@@ -1,7 +1,5 @@
 -- What is promised of the premiums that two offices are told: one definition a clause. Assumes nothing.
 use mathlib.Core.Path.{_≡_}
-use mathlib.Core.List.{List}
-use mathlib.Core.Option.{some}
 use Prim.Native.Nat.{ℕ, _≤_, _<_}
 use lib.ListN.{length, getD}
 use lib.IntN.{ℤ, natAbs}
@@ -13,9 +11,8 @@ use Rattle.tree.specs.Level.{RatingClass}
 use Rattle.money.specs.Premium.{premium}
 use Rattle.money.specs.Prices.{costing}
 use Rattle.money.specs.declared.Price.{Price}
-use Rattle.bands.specs.Bands.{Band, bandOf}
 use Rattle.sheets.specs.Verdicts.{depthsOf, Good}
-use Rattle.pricing.specs.Quotes.{costing as costingBand}
+use Rattle.pricing.specs.Promises.{Priced}
 use Rattle.pricing.specs.declared.prices.SheetPrice.{SheetPrice}
 use Rattle.renumbering.specs.Numbering.{Renumbered, SameRates}
 use Rattle.renumbering.specs.Sheets.{SameSheets}
@@ -38,7 +35,7 @@ SamePremiums first second p q = (r : ℕ → ℕ) → OneEntry r first second �
 abbrev pub SamePrices : ℕ → Office → Office → SheetPrice → SheetPrice → Type 0
 SamePrices d first second p q = (r : ℕ → ℕ) → OneEntry r first second → SameSheets r (first .tariff) (second .tariff) → Good (depthsOf (first .list)) d (first .tariff) → SamePremium r (paidOf p) (paidOf q)
 
--- an office's list forms one tree that holds its entry, and table and space are long enough
+-- an office's list has at most 1,048,576 entries and forms one tree that holds its entry, and table and space are long enough
 pub record Known (o : Office) : Type 0 where
   pub tree : Tree (o .list)
   pub most : length (o .list) ≤ mostEntries
@@ -54,13 +51,6 @@ pub record PaidByRate (o : Office) (d : ℕ) (sum : ℤ) (p : Price) : Type 0 wh
 abbrev pub PaidPremium : Office → ℕ → ℤ → Price → Type 0
 PaidPremium o d sum p = Known o → PaidByRate o d sum p
 
--- by a sheet of bands bs: the entry has a class, and a legal sum number 0, that class and the cents at the rate of the band that holds the sum's size
-pub record PaidByBand (o : Office) (bs : List Band) (d : ℕ) (sum : ℤ) (p : SheetPrice) : Type 0 where
-  pub class : ℕ
-  pub rated : RatingClass (o .list) (o .entry) d class
-  pub band : Band
-  pub found : bandOf bs class (natAbs sum) ≡ some band
-  pub paid : p ≡ costingBand (accepted class) (premium sum (band .rate))
-
+-- and every legal sum its price by a sheet that is to be accepted
 abbrev pub PaidPrice : Office → ℕ → ℤ → SheetPrice → Type 0
-PaidPrice o d sum p = Known o → (g : Good (depthsOf (o .list)) d (o .tariff)) → natAbs sum ≤ mostSum → PaidByBand o (g .bands) d sum p
+PaidPrice o d sum p = Known o → Good (depthsOf (o .list)) d (o .tariff) → natAbs sum ≤ mostSum → Priced (o .list) (o .tariff) (o .entry) d sum p

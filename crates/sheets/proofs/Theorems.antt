@@ -115,6 +115,10 @@ module _ (ps t : List ℕ) (p : Prepared ps t) where
   pub check-right : (d : ℕ) (text : List ℕ) → checkTo t d text ≡ verdict (depthsOf ps) d text
   check-right d text = check-opened t d text (ap (λ o. o .number) (step-prepared ps t p)) ∙ ap (λ l. verdict l d text) depths-right
 
+  -- a sheet is accepted just where it is good for the list
+  pub checked-good : (d : ℕ) (text : List ℕ) → checkTo t d text .number ≡ 0 ↔ Good (depthsOf ps) d text
+  checked-good d text = rw (check-right d text) (accepted-good (depthsOf ps) d text)
+
   -- the top is a class of every level, so an accepted sheet has a line
   pub top-class : (d : ℕ) → isClass (depthsOf ps) d (tree ps t p .root) ≡ true
   top-class d = let (h, e) = root-depth ps (small ps t p) (tree ps t p) in covered-iff ps d (tree ps t p .root) .1 (h, omega (arith, e))
@@ -122,7 +126,7 @@ module _ (ps t : List ℕ) (p : Prepared ps t) where
   pub accepted-lines : (d : ℕ) (text : List ℕ) → checkTo t d text .number ≡ 0 → 1 ≤ checkTo t d text .word
   unfolding covers
   accepted-lines d text z =
-      let g = accepted-good (depthsOf ps) d text .0 (sym (ap (λ v. v .number) (check-right d text)) ∙ z) in
+      let g = checked-good d text .0 z in
       let top = tree ps t p .root in
       let once = g .once .once top (top-class d) 0 (omega arith) in
       let lines = ap (λ v. v .word) (check-right d text ∙ good-verdict (depthsOf ps) d text g) in
@@ -137,7 +141,7 @@ module _ (t : List ℕ) (d : ℕ) (text : List ℕ) (r : Verdict) (is : r ≡ ch
       rw is (check-numbers t d text),
       (
         (λ ps p. is ∙ check-right ps t p d text),
-        (λ ps p. rw (is ∙ check-right ps t p d text) (accepted-good (depthsOf ps) d text)),
+        (λ ps p. rw is (checked-good ps t p d text)),
       ),
     ),
   )
