@@ -1,5 +1,5 @@
-// Another office's numbering: the premium of one barn from two parent lists of one tree, each with rates or a sheet of its own. What it promises follows from the promises
-// of `prepare`, `premium` and `price` and from the theorems of `renumbering` alone.
+// Another office's numbering: the premium of one barn from two parent lists of one tree, each with rates or a sheet of its own. It rests on the promises of `prepare`, `premium`
+// and `price`, and on theorems of the definitions that these name.
 ghost use mathlib.Core.Path.{_≡_};
 ghost use Rattle.table.specs.Preparing.{tableAfter, spaceAfter};
 ghost use Rattle.renumbering_example.specs.Offices.{office, premiumFrom, priceFrom};

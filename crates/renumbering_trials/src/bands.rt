@@ -5,9 +5,9 @@ use crate::asking::drawn_sum;
 use crate::asking::other_node;
 use crate::comparing::Count;
 use crate::comparing::nothing;
-use crate::comparing::plain;
 use crate::comparing::premiums;
 use crate::comparing::together;
+use crate::comparing::without_cells;
 use crate::numbering::renumber_lines;
 use base::Node;
 use base::Sum;
@@ -88,6 +88,9 @@ fn price_of(
         depth,
         sum,
     );
+    if first.amount != second.amount {
+        return without_cells(false);
+    }
     premiums(
         first.answer,
         first.cents,
@@ -157,6 +160,17 @@ fn all_prices(
     count
 }
 
+// One sheet is accepted just where the other is, and neither has a bad line.
+fn alike(first: u32, second: u32) -> bool {
+    if first == 13 {
+        return false;
+    }
+    if second == 13 {
+        return false;
+    }
+    (first == 0) == (second == 0)
+}
+
 // Both checks, of which one is to accept just where the other does, and the prices by sheets that are accepted.
 fn try_texts(
     table: &[u32],
@@ -170,7 +184,7 @@ fn try_texts(
 ) -> Count {
     let first = check(table, text, narrow(d));
     let second = check(other_table, other_text, narrow(d));
-    let accepted = plain((first.number == 0) == (second.number == 0));
+    let accepted = without_cells(alike(first.number, second.number));
     if first.number != 0 {
         return accepted;
     }
@@ -207,5 +221,5 @@ pub(crate) fn try_parts(
             );
         }
     }
-    plain(false)
+    without_cells(false)
 }

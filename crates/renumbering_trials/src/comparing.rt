@@ -27,7 +27,7 @@ pub(crate) fn nothing() -> Count {
 }
 
 // A question without cells.
-pub(crate) fn plain(same: bool) -> Count {
+pub(crate) fn without_cells(same: bool) -> Count {
     if same {
         return counted(Tally::right(), 0, 0);
     }
@@ -67,7 +67,7 @@ fn few(first: Answer, second: Answer, most: u32) -> bool {
     b.count <= most
 }
 
-fn told(same: bool, first: Answer, second: Answer) -> Count {
+fn compared(same: bool, first: Answer, second: Answer) -> Count {
     let cells = other_cells(first, second, 2);
     let counts = other_cells(first, second, 17);
     if same {
@@ -94,15 +94,15 @@ pub(crate) fn classes(
     n: usize,
     most: u32,
 ) -> Count {
-    told(same_class(first, second, numbers, n, most), first, second)
+    compared(same_class(first, second, numbers, n, most), first, second)
 }
 
 // The same number and the same word.
 pub(crate) fn relations(first: Answer, second: Answer) -> Count {
     if first.number != second.number {
-        return told(false, first, second);
+        return compared(false, first, second);
     }
-    told(
+    compared(
         few(first, second, 4) && first.word == second.word,
         first,
         second,
@@ -127,12 +127,12 @@ pub(crate) fn premiums(
     n: usize,
 ) -> Count {
     if first.number != second.number {
-        return told(false, first, second);
+        return compared(false, first, second);
     }
     if cents.0 != other_cents.0 {
-        return told(false, first, second);
+        return compared(false, first, second);
     }
-    told(
+    compared(
         few(first, second, 10) && same_word(first, second, numbers, n),
         first,
         second,

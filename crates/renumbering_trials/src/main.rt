@@ -11,8 +11,8 @@ use crate::bands::renumber_text;
 use crate::bands::try_parts;
 use crate::comparing::Count;
 use crate::comparing::nothing;
-use crate::comparing::plain;
 use crate::comparing::together;
+use crate::comparing::without_cells;
 use crate::numbering::lay_numbers;
 use crate::numbering::renumber_list;
 use crate::numbering::renumber_rates;
@@ -20,6 +20,7 @@ use crate::printed::say;
 use crate::trees::all_classes;
 use crate::trees::all_premiums;
 use crate::trees::lay_rates;
+use samples::cases::ANY;
 use samples::cases::GROWN;
 use samples::cases::KINDS;
 use samples::cases::case_at;
@@ -32,24 +33,33 @@ use sheet_samples::texts::make_text;
 use sheet_samples::trees::level;
 use sheet_samples::trees::tree;
 
-// The lines of the output: each kind of trees and the small ones twice, for classes and for premiums, and the kinds of sheets without a bad line.
+// The lines of the output: lists with a fault, and all small ones; each kind of trees and the small ones twice, for classes and for premiums; and the kinds of sheets without a
+// bad line.
+const LISTS: usize = 5;
+
 const TREES: usize = 8;
 
-const SHEETS: usize = 8;
-
-const LINES: usize = 24;
+const LINES: usize = 29;
 
 // How many of each kind of trees are tried, of up to 512 entries, and of each kind of sheets.
 const OF_KIND: usize = 212;
 
 const OF_SHEETS: usize = 80;
 
-// The table of the list of n entries.
-fn lay(parents: &[u32], n: usize, table: &mut [u32]) {
+// What preparing answers of two lists.
+struct Replies {
+    first: u32,
+    second: u32,
+}
+
+// Prepares the table of the list of n entries. Answers preparing's number.
+fn lay(parents: &[u32], n: usize, table: &mut [u32]) -> u32 {
     let mut space = [0u32; 3075];
     if n <= parents.len() {
-        prepare::prepare(&parents[..n], table, &mut space);
+        let reply = prepare::prepare(&parents[..n], table, &mut space);
+        return reply.number;
     }
+    1
 }
 
 // The new numbers of a list of n entries, and the tables of both lists.
@@ -60,12 +70,51 @@ fn renumber(
     numbers: &mut [u32],
     table: &mut [u32],
     other_table: &mut [u32],
-) {
+) -> Replies {
     let mut others = [0u32; 512];
     lay_numbers(n, next(seed), numbers);
     renumber_list(n, numbers, parents, &mut others);
-    lay(parents, n, table);
-    lay(&others, n, other_table);
+    let first = lay(parents, n, table);
+    let second = lay(&others, n, other_table);
+    Replies { first, second }
+}
+
+// Both lists are accepted.
+fn accepted(replies: Replies) -> Count {
+    if replies.first != 0 {
+        return without_cells(false);
+    }
+    without_cells(replies.second == 0)
+}
+
+// The k-th list of a line: preparing gives both the same number.
+fn try_list(line: usize, k: usize) -> Count {
+    let mut parents = [0u32; 512];
+    let mut numbers = [0u32; 512];
+    let mut table = [0u32; 7424];
+    let mut other_table = [0u32; 7424];
+    let c = case_at(line, k, &mut parents);
+    let replies = renumber(c.n, k, &parents, &mut numbers, &mut table, &mut other_table);
+    without_cells(replies.first == replies.second)
+}
+
+// The line of `samples` that has lists of a fault, or all small ones.
+fn lists_of(line: usize) -> usize {
+    if line < 4 {
+        return add(KINDS, line);
+    }
+    ANY
+}
+
+fn try_lists(line: usize) -> Count {
+    let most = count_at(line);
+    let mut count = nothing();
+    let mut k = 0;
+    while k < most {
+        count = together(count, try_list(line, k));
+        k += 1;
+    }
+    count
 }
 
 // The premiums by lists of n rates.
@@ -93,7 +142,7 @@ fn premiums_by(
             );
         }
     }
-    plain(false)
+    without_cells(false)
 }
 
 fn premiums_of(
@@ -120,18 +169,34 @@ fn premiums_of(
     )
 }
 
-// The k-th tree of a kind: its classes, or its premiums.
+// The classes of a tree, or its premiums.
+fn questions(
+    money: bool,
+    table: &[u32],
+    other_table: &[u32],
+    numbers: &[u32],
+    parents: &[u32],
+    n: usize,
+    seed: usize,
+) -> Count {
+    if money {
+        return premiums_of(table, other_table, numbers, parents, n, seed);
+    }
+    all_classes(table, other_table, numbers, parents, n)
+}
+
+// The k-th tree of a kind: both lists are accepted, and every answer is the same.
 fn try_tree(money: bool, kind: usize, k: usize) -> Count {
     let mut parents = [0u32; 512];
     let mut numbers = [0u32; 512];
     let mut table = [0u32; 7424];
     let mut other_table = [0u32; 7424];
     let c = case_at(kind, k, &mut parents);
-    renumber(c.n, k, &parents, &mut numbers, &mut table, &mut other_table);
-    if money {
-        return premiums_of(&table, &other_table, &numbers, &parents, c.n, k);
-    }
-    all_classes(&table, &other_table, &numbers, &parents, c.n)
+    let replies = renumber(c.n, k, &parents, &mut numbers, &mut table, &mut other_table);
+    together(
+        accepted(replies),
+        questions(money, &table, &other_table, &numbers, &parents, c.n, k),
+    )
 }
 
 // The line of `samples` that has a kind of trees.
@@ -157,6 +222,59 @@ fn try_trees(money: bool, kind: usize) -> Count {
     count
 }
 
+// A tree of n entries, a level of it, and how many bytes the text of a sheet for it has.
+struct Laid {
+    n: usize,
+    level: usize,
+    count: usize,
+}
+
+fn lay_sheet(kind: usize, seed: usize, parents: &mut [u32], text: &mut [u8]) -> Laid {
+    let c = tree(kind, seed, parents);
+    let d = level(kind, parents, c.n, seed);
+    let count = make_text(kind, text, parents, c.n, d, seed);
+    Laid {
+        n: c.n,
+        level: d,
+        count,
+    }
+}
+
+// A text at both offices, whose tables stand.
+fn try_text(
+    laid: Laid,
+    text: &[u8],
+    table: &[u32],
+    other_table: &[u32],
+    numbers: &[u32],
+    parents: &[u32],
+    seed: usize,
+) -> Count {
+    let mut other_text = [0u8; 32768];
+    let other_count = renumber_text(
+        text,
+        laid.count,
+        &mut other_text,
+        numbers,
+        parents,
+        laid.n,
+        laid.level,
+        seed,
+    );
+    try_parts(
+        table,
+        text,
+        laid.count,
+        other_table,
+        &other_text,
+        other_count,
+        numbers,
+        laid.n,
+        laid.level,
+        seed,
+    )
+}
+
 // A sheet of a kind, for the level of a tree.
 fn try_sheet(kind: usize, seed: usize) -> Count {
     let mut parents = [0u32; 512];
@@ -164,39 +282,18 @@ fn try_sheet(kind: usize, seed: usize) -> Count {
     let mut table = [0u32; 7424];
     let mut other_table = [0u32; 7424];
     let mut text = [0u8; 32768];
-    let mut other_text = [0u8; 32768];
-    let c = tree(kind, seed, &mut parents);
-    let d = level(kind, &parents, c.n, seed);
-    let count = make_text(kind, &mut text, &parents, c.n, d, seed);
-    renumber(
-        c.n,
+    let laid = lay_sheet(kind, seed, &mut parents, &mut text);
+    let replies = renumber(
+        laid.n,
         seed,
         &parents,
         &mut numbers,
         &mut table,
         &mut other_table,
     );
-    let other_count = renumber_text(
-        &text,
-        count,
-        &mut other_text,
-        &numbers,
-        &parents,
-        c.n,
-        d,
-        seed,
-    );
-    try_parts(
-        &table,
-        &text,
-        count,
-        &other_table,
-        &other_text,
-        other_count,
-        &numbers,
-        c.n,
-        d,
-        seed,
+    together(
+        accepted(replies),
+        try_text(laid, &text, &table, &other_table, &numbers, &parents, seed),
     )
 }
 
@@ -212,13 +309,18 @@ fn try_sheets(kind: usize) -> Count {
 }
 
 fn try_line(line: usize) -> Count {
-    if line < TREES {
-        return try_trees(false, kind_of(line));
+    if line < LISTS {
+        return try_lists(lists_of(line));
     }
-    if line < TREES + TREES {
-        return try_trees(true, kind_of(less(line, TREES)));
+    let rest = less(line, LISTS);
+    if rest < TREES {
+        return try_trees(false, kind_of(rest));
     }
-    try_sheets(less(line, TREES + TREES))
+    let more = less(rest, TREES);
+    if more < TREES {
+        return try_trees(true, kind_of(more));
+    }
+    try_sheets(less(more, TREES))
 }
 
 fn main() {

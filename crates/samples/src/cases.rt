@@ -27,7 +27,7 @@ const TABLE: usize = 12;
 
 const SPACE: usize = 13;
 
-const ANY: usize = 14;
+pub const ANY: usize = 14;
 
 pub const GROWN: usize = 15;
 

@@ -1,4 +1,4 @@
--- `lay` is safe. Assumes nothing.
+-- `lay` is safe: the part that it lends has the length that it names. Assumes nothing.
 use native.Mathlib.Omega.{arith}
 use borrow.Author.Needs.{needs}
 use lib.ListN.{length-take}

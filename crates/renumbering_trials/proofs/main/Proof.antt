@@ -8,7 +8,7 @@ abbrev Inv-loop : tie.InvT-loop
 Inv-loop total₀ line₀ total line = Unit {0}
 
 abbrev μ-loop : tie.MeasureT-loop
-μ-loop total₀ line₀ total line = 24 - line
+μ-loop total₀ line₀ total line = 29 - line
 
 pub main-spec : {M : Type 1} → statement M
 main-spec =
