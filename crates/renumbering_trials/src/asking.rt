@@ -1,4 +1,4 @@
-// Every entry of a tree at every level, at two offices.
+// Questions of one entry or of two, at two offices.
 use crate::comparing::Count;
 use crate::comparing::classes;
 use crate::comparing::nothing;
@@ -136,7 +136,7 @@ fn premium_of(
     )
 }
 
-// The sums that are asked of an entry.
+// The i-th sum that is asked of v at level d.
 pub(crate) fn drawn_sum(i: usize, seed: usize, v: usize, d: usize) -> Sum {
     Sum(sum_at(i, next(add(seed, add(v, d)))))
 }

@@ -57,7 +57,7 @@ fn other_cells(first: Answer, second: Answer, from: usize) -> usize {
     0
 }
 
-// At most ten cells each, or fifteen for a branch.
+// At most so many cells each.
 fn few(first: Answer, second: Answer, most: u32) -> bool {
     let a = first.cells;
     let b = second.cells;
@@ -117,7 +117,7 @@ fn same_word(first: Answer, second: Answer, numbers: &[u32], n: usize) -> bool {
     first.word == second.word
 }
 
-// The same number and the same cents.
+// The same number, the same cents, and the class renumbered or the same name.
 pub(crate) fn premiums(
     first: Answer,
     cents: Cents,

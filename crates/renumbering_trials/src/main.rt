@@ -240,7 +240,7 @@ fn lay_sheet(kind: usize, seed: usize, parents: &mut [u32], text: &mut [u8]) -> 
     }
 }
 
-// A text at both offices, whose tables stand.
+// A text by the first table, and its renumbered one by the other.
 fn try_text(
     laid: Laid,
     text: &[u8],

@@ -15,7 +15,7 @@ use samples::words::put;
 // The most entries of a tree of which every pair is asked.
 const PAIRED: usize = 24;
 
-// Every entry at every level: its classes.
+// The classes of v at every level.
 fn levels(
     table: &[u32],
     other_table: &[u32],
@@ -34,7 +34,7 @@ fn levels(
     count
 }
 
-// The pairs of an entry u with each other.
+// The pairs of u with every entry and with numbers that are none, in a small tree.
 fn pairs(table: &[u32], other_table: &[u32], numbers: &[u32], n: usize, u: usize) -> Count {
     let mut count = nothing();
     if PAIRED < n {
@@ -72,7 +72,7 @@ pub(crate) fn all_classes(
     count
 }
 
-// The premiums of an entry at every level.
+// The premiums of v at every level.
 fn level_premiums(
     table: &[u32],
     rates: &[u32],
