@@ -29,7 +29,7 @@ OneList = (r : ℕ → ℕ) (ps qs os : List ℕ) → Renumbered r ps qs → Ren
 abbrev pub SameWidth : Type 0
 SameWidth = (r : ℕ → ℕ) (ps qs : List ℕ) → Renumbered r ps qs → (m : ℕ) → length ps ≤ m → ((v : ℕ) → v < length ps → word ps v < m) → (w : ℕ) → w < length qs → word qs w < m
 
--- so has every list of n rates
+-- every list of n rates has one that is renumbered alike
 abbrev pub EveryRates : Type 0
 EveryRates = (r : ℕ → ℕ) (n : ℕ) (rates : List ℕ) → Renumbering n r → length rates ≡ n → (others : List ℕ) × SameRates r n rates others
 
