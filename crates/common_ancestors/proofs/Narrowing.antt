@@ -1,0 +1,78 @@
+-- The search narrows down to the first entry of a's climb that is on b's. Assumes nothing.
+use mathlib.Core.Path.{_≡_, refl, sym, ap, _∙_}
+use mathlib.Core.List.{List}
+use mathlib.Core.Bool.{true, false}
+use mathlib.Core.Option.{some}
+use Prim.Native.Nat.{ℕ, zero, suc, _+_, _-_, _≤_, _<_}
+use native.Mathlib.Omega.{arith}
+use Rattle.base.specs.Limits.{depthCell}
+use Rattle.tree.specs.Parents.{up}
+use Rattle.tree.specs.Level.{Ancestor}
+use Rattle.tree.proofs.Climbs.{entry-some, up-add}
+use Rattle.tree.proofs.Depths.{up-some, up-depth}
+use Rattle.tree.proofs.Intervals.{ancestor-trans, depth-less}
+use Rattle.answers.specs.Reading.{wordAt}
+use Rattle.climbs.proofs.TableWords.{small, tree, depth-word}
+use Rattle.common_ancestors.specs.Common.{Nearest}
+use Rattle.common_ancestors.specs.Promises.{Shares}
+use Rattle.common_ancestors.specs.Parts.{Table, Given, Tried}
+use Rattle.common_ancestors.specs.declared.trial.Trial.{Trial}
+use Rattle.common_ancestors.proofs.Climbs.{Meets, meets-nearest}
+use Rattle.common_ancestors.proofs.Theorems.{nearest-above}
+
+-- fewer than `low` climbs from a lead to no entry on b's climb, and `high` climbs to `word`, which is one, where a is as deep
+pub record Narrowed (ps : List ℕ) (a b da low high word : ℕ) : Type 0 where
+  pub below : (j x : ℕ) → j < low → up ps j a ≡ some x → Ancestor ps x b → ⊥
+  pub hit : high ≤ da → (up ps high a ≡ some word) × Ancestor ps word b
+
+-- DEPTH has the depth
+pub given : (ps t : List ℕ) (n a b da : ℕ) → Table ps t n → a < n → b < n → da ≡ wordAt t (depthCell n a) → Given ps t n a b da
+given ps t n a b da of ha hb e = record { of = of; deep = e ∙ depth-word ps t (of .prepared) a (omega (arith, of .count)); first = ha; second = hb }
+
+module _ (ps t : List ℕ) (n a b da : ℕ) (g : Given ps t n a b da) where
+  pub given-shallow : da < n
+  given-shallow = omega (arith, g .deep, g .of .count, depth-less ps (small ps t (g .of .prepared)) (tree ps t (g .of .prepared)) a (omega (arith, g .first, g .of .count)))
+
+  -- a, where it is at or above b
+  pub own-shares : Ancestor ps a b → Shares ps a b (record { number = 0; word = a })
+  own-shares h = record { found = refl; nearest = nearest-above ps (small ps t (g .of .prepared)) (tree ps t (g .of .prepared)) a b h }
+
+  pub narrowed-start : (Ancestor ps a b → ⊥) → Narrowed ps a b da 1 (da + 1) 0
+  unfolding up
+  narrowed-start no-way = record { below = go; hit = λ h. absurd (omega arith) }
+    where
+      go : (j x : ℕ) → j < 1 → up ps j a ≡ some x → Ancestor ps x b → ⊥
+      go zero x i e h = let z : a ≡ x = entry-some ps a x e .0 in no-way (rw z h)
+      go (suc j) x i e h = omega arith
+
+  -- the entry that is tried
+  climbed : (k : ℕ) → k ≤ da → (x : ℕ) × (up ps k a ≡ some x)
+  climbed k h = up-some ps (small ps t (g .of .prepared)) (tree ps t (g .of .prepared)) k a (omega (arith, g .first, g .of .count)) (omega (arith, g .deep))
+
+  module _ (low high word k : ℕ) (s : Narrowed ps a b da low high word) (h : k ≤ da) (r : Trial) (right : (x : ℕ) → up ps k a ≡ some x → Tried ps x b r) where
+    pub tried-known : r .number ≡ 0
+    tried-known = let (x, e) = climbed k h in right x e .tells .told
+
+    pub narrowed-hit : r .above ≡ true → Narrowed ps a b da low k (r .word)
+    narrowed-hit y = let (x, e) = climbed k h in let m = right x e in record { below = s .below; hit = λ i. rw (m .entry) (e, m .tells .yes y) }
+
+    pub narrowed-miss : r .above ≡ false → Narrowed ps a b da (k + 1) high word
+    narrowed-miss n = record { below = go (climbed k h); hit = s .hit }
+      where
+        -- what is above an entry on b's climb is on it too
+        go : (x : ℕ) × (up ps k a ≡ some x) → (j y : ℕ) → j < k + 1 → up ps j a ≡ some y → Ancestor ps y b → ⊥
+        go (x, e) j y i f c =
+            let z : k ≡ j + (k - j) = omega arith in
+            right x e .tells .no n (ancestor-trans ps (small ps t (g .of .prepared)) (tree ps t (g .of .prepared)) x y b (record { climbs = k - j; reached = sym (up-add ps j (k - j) a y f) ∙ ap (λ m. up ps m a) (sym z) ∙ e }) c)
+
+  module _ (low high word : ℕ) (s : Narrowed ps a b da low high word) (e : high ≤ low) where
+    -- the top is on b's climb
+    pub narrowed-in : high ≤ da + 1 → da < high → ⊥
+    narrowed-in f h =
+        let c = tree ps t (g .of .prepared) in
+        let (k, r) = c .climbs a (omega (arith, g .first, g .of .count)) in
+        let (j, q) = c .climbs b (omega (arith, g .second, g .of .count)) in
+        s .below k (c .root) (omega (arith, g .deep, up-depth ps (small ps t (g .of .prepared)) c k a (c .root) r)) r (record { climbs = j; reached = q })
+
+    pub narrowed-end : high ≤ da → Nearest ps a b word
+    narrowed-end h = let (r, o) = s .hit h in meets-nearest ps (small ps t (g .of .prepared)) (tree ps t (g .of .prepared)) a b word high (record { reached = r; on = o; before = λ j x i. s .below j x (omega arith) })

@@ -1,0 +1,58 @@
+-- What a lookup and a test of ancestry tell of a list from which the table is prepared. Assumes nothing.
+use mathlib.Core.Path.{_≡_, sym, ap, _∙_}
+use mathlib.Core.Logic.{_↔_, inl, inr}
+use mathlib.Core.List.{List}
+use mathlib.Core.Bool.{Bool, true, false, cond}
+use mathlib.Core.Option.{some}
+use Prim.Native.Nat.{ℕ, _<_}
+use native.Mathlib.Omega.{arith}
+use lib.ListN.{length}
+use lib.Dec.{eqb}
+use borrow.Author.Tests.{eqb-true, eqb-false, lt-leb}
+use Rattle.base.specs.Lists.{has}
+use Rattle.base.specs.Numbers.{Outcome, accepted}
+use Rattle.tree.specs.Parents.{up, climb}
+use Rattle.tree.specs.Level.{Ancestor}
+use Rattle.tree.specs.Questions.{ancestryOf}
+use Rattle.tree.proofs.Branches.{ancestry-iff}
+use Rattle.tree.proofs.Meanings.{climb-iff}
+use Rattle.answers.specs.Answers.{answerTo, answerWords}
+use Rattle.answers.specs.Steps.{climbing, opened}
+use Rattle.climbs.proofs.TableWords.{small, tree}
+use Rattle.climbs.proofs.Questions.{climb-right}
+use Rattle.query.specs.Lookups.{fromLookup}
+use Rattle.query.specs.declared.look.Lookup.the-variants.{Climb}
+use Rattle.query.proofs.Ratings.{firstTwo, outcome-words}
+use Rattle.table.specs.Preparing.{Prepared}
+use Rattle.common_ancestors.specs.Parts.{Settled, Table, Tells}
+
+module _ (ps t : List ℕ) (n : ℕ) (of : Table ps t n) where
+  -- ancestry's word is 1 just where the first is at or above the second
+  pub ancestry-tells : (w b : ℕ) (o : Outcome) → w < n → b < n → o ≡ ancestryOf ps w b → Tells ps w b (o .number) (eqb (o .word) 1)
+  unfolding ancestryOf
+  ancestry-tells w b o hw hb e = record { told = ap (λ x. x .number) (e ∙ counted); yes = λ q. iff .0 (sym e ∙ one q (e ∙ counted)); no = λ q a. eqb-false _ _ q (ap (λ x. x .word) (e ∙ iff .1 a)) }
+    where
+      p : Prepared ps t
+      p = of .prepared
+
+      inside : (x : ℕ) → x < n → x < length ps
+      inside x h = omega (arith, of .count)
+
+      iff : (ancestryOf ps w b ≡ accepted 1) ↔ Ancestor ps w b
+      iff = ancestry-iff ps (small ps t p) (tree ps t p) w b (inside w hw) (inside b hb)
+
+      counted : ancestryOf ps w b ≡ accepted (cond (has (climb ps b) w) 1 0)
+      counted = rw (lt-leb (length ps) w (inside w hw), lt-leb (length ps) b (inside b hb))
+
+      one : eqb (o .word) 1 ≡ true → o ≡ accepted (cond (has (climb ps b) w) 1 0) → o ≡ accepted 1
+      one q f = f ∙ ap accepted (sym (ap (λ x. x .word) f) ∙ eqb-true _ _ q)
+
+  -- a lookup's words have the entry so many climbs above
+  pub climb-reaches : (a k x : ℕ) (words : List ℕ) → words ≡ answerWords (answerTo t (opened (length t) (fromLookup Climb a k))) → up ps k a ≡ some x → firstTwo words ≡ accepted x
+  unfolding climbing fromLookup answerTo
+  climb-reaches a k x words e r = outcome-words _ words e ∙ climb-right ps t (of .prepared) a k ∙ climb-iff ps a k x .1 r
+
+-- a settled answer of number 0 names an entry
+pub settled-word : (n : ℕ) (o : Outcome) → Settled n o → o .number ≡ 0 → o .word < n
+settled-word n o (inl (z, h)) e = h
+settled-word n o (inr q) e = absurd (omega (arith, ap (λ x. x .number) q))

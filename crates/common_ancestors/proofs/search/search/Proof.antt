@@ -1,0 +1,156 @@
+-- `search::search` meets its contract. The invariant: fewer than `low` climbs are too few, `high` lead to `word`, which is at or above b, and k is at most half way.
+-- The measure is how many may yet be tried. Assumes nothing.
+use mathlib.Core.Logic.{_⊎_, inl, inr}
+use mathlib.Core.Path.{_≡_, refl}
+use mathlib.Core.List.{List}
+use Prim.Native.Nat.{ℕ, _+_, _-_, _*_, _≤_, _<_}
+use native.Mathlib.Omega.{arith}
+use borrow.Author.Needs.{needs}
+use Rattle.tree.specs.Level.{Ancestor}
+use Rattle.common_ancestors.specs.Parts.{Given}
+use Rattle.common_ancestors.proofs.Halving.{Few, few-start, few-more, few-next}
+use Rattle.common_ancestors.proofs.Narrowing.{Narrowed, narrowed-start, tried-known, narrowed-hit, narrowed-miss, narrowed-in, narrowed-end}
+use Rattle.common_ancestors.proofs.search.search.Statement.{statement}
+use Rattle.common_ancestors.proofs.search.search.Tie as tie
+use Rattle.common_ancestors.proofs.search.search.Reads as reads
+use Rattle.common_ancestors.proofs.search.search.Lts as lts
+
+-- where the numbers of climbs stand
+pub record Stands (n da low high word k tries : ℕ) : Type 0 where
+  pub over : low ≤ k
+  pub half : 2 * k ≤ low + high
+  pub most : high ≤ da + 1
+  pub middle : 3 ≤ tries → low + high ≤ 2 * k + 1
+  pub few : Few tries (high - low)
+  pub entry : high ≤ da → word < n
+
+abbrev Narrows : List ℕ → ℕ → ℕ → ℕ → ℕ → ℕ → ℕ → ℕ → Type 0
+Narrows t n a b da low high word = (ps : List ℕ) → Given ps t n a b da → (Ancestor ps a b → ⊥) → Narrowed ps a b da low high word
+
+abbrev Inv-loop : tie.InvT-loop
+Inv-loop table n a b da low₀ high₀ word₀ k₀ tries₀ low high word k tries = Stands n da low high word k tries × Narrows table n (a .0) (b .0) da low high word
+
+abbrev μ-loop : tie.MeasureT-loop
+μ-loop table n a b da low₀ high₀ word₀ k₀ tries₀ low high word k tries = 23 - tries
+
+add-high : tie.Need-add-high Inv-loop μ-loop
+add-high c = search needs
+
+loop-holds : tie.Need-loop-holds Inv-loop μ-loop
+loop-holds c = (
+  record { over = omega arith; half = omega arith; most = omega arith; middle = λ h. absurd (omega arith); few = few-start _ (omega arith); entry = λ h. absurd (omega arith) },
+  λ ps g n. narrowed-start ps _ _ _ _ _ g n,
+)
+
+tried-requires : tie.Need-tried-requires Inv-loop μ-loop
+tried-requires c κs = search needs
+
+add-tries : tie.Need-add-tries Inv-loop μ-loop
+add-tries c =
+    let at = c .before .before .loop in
+    omega (arith, few-more (at .tries) (at .high - at .low) (at .inv .0 .few) (omega arith))
+
+returns : tie.Need-returns Inv-loop μ-loop
+returns c =
+    let try = c .before .before in
+    let at = try .before .before .loop in (
+      omega (arith, few-more (at .tries) (at .high - at .low) (at .inv .0 .few) (omega arith)),
+      (
+        inr refl,
+        λ ps g n. absurd (c .if1 .taken (tried-known ps _ _ _ _ _ g (at .low) (at .high) (at .word) (at .k) (at .inv .1 ps g n) (omega arith) (try .tried .result) (λ x. try .tried .ensures .1 ps (g .of) (g .second) x))),
+      ),
+    )
+
+middle-requires : tie.Need-middle-requires Inv-loop μ-loop
+middle-requires c κs = omega arith
+
+loop-less : tie.Need-loop-less Inv-loop μ-loop
+loop-less c =
+    let try = c .before .before .before .before in
+    let at = try .before .before .loop in
+    omega (arith, few-more (at .tries) (at .high - at .low) (at .inv .0 .few) (omega arith))
+
+loop-again : tie.Need-loop-again Inv-loop μ-loop
+loop-again c =
+    let try = c .before .before .before .before in
+    let at = try .before .before .loop in (
+      record {
+        over = omega arith;
+        half = omega arith;
+        most = omega arith;
+        middle = λ h. omega arith;
+        few = few-next (at .tries) (at .high - at .low) (at .inv .0 .few) (omega arith) (at .k - at .low) (omega arith) (λ h. omega arith);
+        entry = λ h. try .tried .ensures .0 (c .before .before .if1 .left);
+      },
+      λ ps g n.
+          narrowed-hit ps _ _ _ _ _ g (at .low) (at .high) (at .word) (at .k) (at .inv .1 ps g n) (omega arith) (try .tried .result) (λ x. try .tried .ensures .1 ps (g .of) (g .second) x) (c .before .if2 .taken),
+    )
+
+add-low : tie.Need-add-low Inv-loop μ-loop
+add-low c = omega arith
+
+next-requires : tie.Need-next-requires Inv-loop μ-loop
+next-requires c κs = (omega arith, omega arith)
+
+loop-less-2 : tie.Need-loop-less-2 Inv-loop μ-loop
+loop-less-2 c =
+    let try = c .before .before .before .before in
+    let at = try .before .before .loop in
+    omega (arith, few-more (at .tries) (at .high - at .low) (at .inv .0 .few) (omega arith))
+
+loop-again-2 : tie.Need-loop-again-2 Inv-loop μ-loop
+loop-again-2 c =
+    let try = c .before .before .before .before in
+    let at = try .before .before .loop in (
+      record {
+        over = omega arith;
+        half = omega arith;
+        most = omega arith;
+        middle = λ h. c .next .ensures .2 h;
+        few = few-next (at .tries) (at .high - at .low) (at .inv .0 .few) (omega arith) (at .high - (at .k + 1)) (omega arith) (λ h. omega (arith, at .inv .0 .middle h));
+        entry = at .inv .0 .entry;
+      },
+      λ ps g n.
+          narrowed-miss ps _ _ _ _ _ g (at .low) (at .high) (at .word) (at .k) (at .inv .1 ps g n) (omega arith) (try .tried .result) (λ x. try .tried .ensures .1 ps (g .of) (g .second) x) (c .before .if2 .left),
+    )
+
+returns-2 : tie.Need-returns-2 Inv-loop μ-loop
+returns-2 c =
+    let at = c .before .before .loop in (
+      at .inv .0 .few .most,
+      (
+        inr refl,
+        λ ps g n. absurd (narrowed-in ps _ _ _ _ _ g (at .low) (at .high) (at .word) (at .inv .1 ps g n) (omega arith) (omega arith) (c .if3 .taken)),
+      ),
+    )
+
+returns-3 : tie.Need-returns-3 Inv-loop μ-loop
+returns-3 c =
+    let at = c .before .before .loop in (
+      at .inv .0 .few .most,
+      (
+        inl (refl, at .inv .0 .entry (omega arith)),
+        λ ps g n. record { found = refl; nearest = narrowed-end ps _ _ _ _ _ g (at .low) (at .high) (at .word) (at .inv .1 ps g n) (omega arith) (omega arith) },
+      ),
+    )
+
+pub search-spec : {M : Type 1} → statement M
+search-spec =
+    tie.close
+    (tie.spec
+    Inv-loop
+    μ-loop
+    add-high
+    loop-holds
+    tried-requires
+    add-tries
+    returns
+    middle-requires
+    loop-less
+    loop-again
+    add-low
+    next-requires
+    loop-less-2
+    loop-again-2
+    returns-2
+    returns-3)

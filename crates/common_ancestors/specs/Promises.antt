@@ -1,0 +1,47 @@
+-- What the two questions promise of their reply r on a table t of any contents: one definition a clause. Assumes nothing.
+use mathlib.Core.Path.{_≡_}
+use mathlib.Core.Logic.{_⊎_}
+use mathlib.Core.Bool.{true}
+use mathlib.Core.List.{List}
+use Prim.Native.Nat.{ℕ, _+_, _-_, _*_, _<_}
+use lib.ListN.{length}
+use Rattle.base.specs.Lists.{has}
+use Rattle.base.specs.Numbers.{Outcome, broken}
+use Rattle.base.specs.declared.Reply.{Reply}
+use Rattle.tree.specs.Parents.{depth}
+use Rattle.table.specs.Preparing.{Prepared}
+use Rattle.common_ancestors.specs.Common.{Nearest}
+use Rattle.common_ancestors.specs.Admission.{admission}
+
+-- a reply as number and word
+abbrev pub said : Reply → Outcome
+said r = record { number = r .number; word = r .word }
+
+-- the refusal where there is one, else 0 or 9: "for a table that preparing didn't write, anything further is open"
+pub record Enters (t : List ℕ) (u v : ℕ) (o : Outcome) : Type 0 where
+  pub refused : (admission t u v .number ≡ 0 → ⊥) → o ≡ admission t u v
+  pub settled : admission t u v .number ≡ 0 → (o .number ≡ 0) ⊎ (o ≡ broken)
+
+-- the number is one of a list
+abbrev pub Gives : List ℕ → Reply → Type 0
+Gives numbers r = has numbers (r .number) ≡ true
+
+-- for every list from which the table is prepared, the reply is what the question means on that list
+abbrev pub Right : (List ℕ → Outcome) → List ℕ → Reply → Type 0
+Right meaning t r = (ps : List ℕ) → Prepared ps t → said r ≡ meaning ps
+
+-- the nearest common ancestor was found
+pub record Shares (ps : List ℕ) (u v : ℕ) (r : Reply) : Type 0 where
+  pub found : r .number ≡ 0
+  pub nearest : Nearest ps u v (r .word)
+
+-- the climbs through it were counted
+pub record Counts (ps : List ℕ) (u v : ℕ) (r : Reply) : Type 0 where
+  pub found : r .number ≡ 0
+  pub class : ℕ
+  pub nearest : Nearest ps u v class
+  pub climbs : r .word ≡ depth ps u + depth ps v - 2 * depth ps class
+
+-- for every list from which the table is prepared, every question about two entries is answered
+abbrev pub Known : (List ℕ → ℕ → ℕ → Reply → Type 0) → ℕ → ℕ → List ℕ → Reply → Type 0
+Known answered u v t r = (ps : List ℕ) → Prepared ps t → u < length ps → v < length ps → answered ps u v r

@@ -1,0 +1,142 @@
+// The search for the first entry on both climbs: from the entry that is less deep, by strides that grow, then by halves.
+ghost use mathlib.Core.Path.{_≡_};
+ghost use mathlib.Core.List.{List};
+ghost use Prim.Native.Nat.{ℕ, _+_, _*_, _<_, _≤_};
+ghost use Rattle.base.specs.Limits.{Sized, mostEntries};
+ghost use Rattle.tree.specs.Level.{Ancestor};
+ghost use Rattle.common_ancestors.specs.Promises.{said, Shares};
+ghost use Rattle.common_ancestors.specs.Parts.{Table, Given, Settled};
+use crate::trial::broken;
+use crate::trial::depth_of;
+use crate::trial::is_above;
+use crate::trial::tried;
+use base::Node;
+use base::Reply;
+use base::limits::MOST_ENTRIES;
+use base::numbers::ACCEPTED;
+use base::numbers::BROKEN;
+
+// What a search found, and how many entries it tried: for each a lookup and a test.
+pub struct Found {
+    pub number: u32,
+    pub word: u32,
+    pub tries: u32,
+}
+
+// The first entry on both climbs.
+pub(crate) fn nearest(table: &[u32], n: u32, u: Node, v: Node) -> Reply
+    requires { ⌜ (Sized (now table) n) × (u .0 < n) × (v .0 < n) ⌝ }
+    ensures settled { λ r. ⌜ Settled n (said r) ⌝ }
+    ensures right { λ r. ⌜ ((ps : List ℕ) → Table ps (now (table .entry)) n → Shares ps (u .0) (v .0) r) ⌝ }
+{
+    let du = depth_of(table, n, u);
+    let dv = depth_of(table, n, v);
+    if dv < du {
+        return first_above(table, n, v, u, dv);
+    }
+    first_above(table, n, u, v, du)
+}
+
+// The first entry of a's climb that is on b's, where a is `da` deep.
+fn first_above(table: &[u32], n: u32, a: Node, b: Node, da: u32) -> Reply
+    requires { ⌜ (n ≤ mostEntries) × (a .0 < n) × (b .0 < n) ⌝ }
+    ensures settled { λ r. ⌜ Settled n (said r) ⌝ }
+    ensures right { λ r. ⌜ ((ps : List ℕ) → Given ps (now (table .entry)) n (a .0) (b .0) da → Shares ps (a .0) (b .0) r) ⌝ }
+{
+    let own = is_above(table, a, b);
+    if own.number != ACCEPTED {
+        return broken();
+    }
+    if own.above {
+        return Reply {
+            number: ACCEPTED,
+            word: a.0,
+        };
+    }
+    if n <= da {
+        return broken();
+    }
+    let found = search(table, n, a, b, da);
+    Reply {
+        number: found.number,
+        word: found.word,
+    }
+}
+
+// The same, where a is not at or above b. Fewer than `low` climbs from a lead to no entry of b's climb, and `high` climbs lead to `word`, which is one.
+fn search(table: &[u32], n: u32, a: Node, b: Node, da: u32) -> Found
+    requires { ⌜ (n ≤ mostEntries) × (da < n) ⌝ }
+    ensures few { λ r. ⌜ r .tries ≤ 23 ⌝ }
+    ensures settled { λ r. ⌜ Settled n (record { number = r .number; word = r .word }) ⌝ }
+    ensures right { λ r. ⌜ ((ps : List ℕ) → Given ps (now (table .entry)) n (a .0) (b .0) da → (Ancestor ps (a .0) (b .0) → ⊥) → Shares ps (a .0) (b .0) (record { number = r .number; word = r .word })) ⌝ }
+{
+    let mut low: u32 = 1;
+    let mut high = da + 1;
+    let mut word: u32 = 0;
+    let mut k: u32 = 1;
+    let mut tries: u32 = 0;
+    while low < high {
+        let t = tried(table, n, a, b, k);
+        tries += 1;
+        if t.number != ACCEPTED {
+            return Found {
+                number: BROKEN,
+                word: 0,
+                tries,
+            };
+        }
+        if t.above {
+            high = k;
+            word = t.word;
+            k = middle(low, high);
+        } else {
+            low = k + 1;
+            k = next(low, high, tries);
+        }
+    }
+    if da < high {
+        return Found {
+            number: BROKEN,
+            word: 0,
+            tries,
+        };
+    }
+    Found {
+        number: ACCEPTED,
+        word,
+        tries,
+    }
+}
+
+// Half way, the lower of two.
+fn middle(low: u32, high: u32) -> u32
+    requires { ⌜ low ≤ high ⌝ }
+    ensures { λ r. ⌜ (2 * r ≤ low + high) × (low + high ≤ 2 * r + 1) ⌝ }
+{
+    low + (high - low) / 2
+}
+
+// The climbs to try next past a try that was too low: after the first two a stride past it, so that entries near each other are found soon, then half way.
+fn next(low: u32, high: u32, tries: u32) -> u32
+    requires { ⌜ (low ≤ high) × (high ≤ mostEntries) ⌝ }
+    ensures { λ r. ⌜ (low ≤ r) × (2 * r ≤ low + high) × (3 ≤ tries → low + high ≤ 2 * r + 1) ⌝ }
+{
+    let half = middle(low, high);
+    let stride = stride(tries);
+    if stride < half - low {
+        return low + stride;
+    }
+    half
+}
+
+// 1, 5 and 21 climbs are tried first.
+fn stride(tries: u32) -> u32
+    ensures { λ r. ⌜ (3 ≤ tries → mostEntries ≤ r) ⌝ }
+{
+    match tries {
+        0 => 0,
+        1 => 3,
+        2 => 15,
+        _ => MOST_ENTRIES,
+    }
+}
