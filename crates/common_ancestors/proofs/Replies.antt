@@ -13,7 +13,6 @@ use borrow.Author.Tests.{eq-eqb, ne-eqb, le-leb, lt-leb}
 use Rattle.base.specs.Limits.{depthCell}
 use Rattle.base.specs.Lists.{some?, has}
 use Rattle.base.specs.Numbers.{Outcome, accepted, unknown, broken, Says}
-use Rattle.base.specs.declared.Reply.{Reply}
 use Rattle.tree.specs.Parents.{depth}
 use Rattle.tree.proofs.Intervals.{ancestor-in, depth-less}
 use Rattle.table.specs.Preparing.{Prepared}
@@ -23,7 +22,7 @@ use Rattle.query.specs.StepOne.{stepOne}
 use Rattle.query.proofs.StepOne.{step-prepared, step-numbers}
 use Rattle.common_ancestors.specs.Common.{bothKnown, ofBoth, nearestOf, distanceOf}
 use Rattle.common_ancestors.specs.Admission.{admission}
-use Rattle.common_ancestors.specs.Promises.{said, Enters, Shares, Counts}
+use Rattle.common_ancestors.specs.Promises.{Enters, Gives, Shares, Counts}
 use Rattle.common_ancestors.specs.Parts.{Settled, Table}
 use Rattle.common_ancestors.proofs.Theorems.{nearest-iff, distance-depths}
 
@@ -104,7 +103,7 @@ module _ (t : List ℕ) (u v : ℕ) (o : Outcome) (e : o ≡ admission t u v) wh
 
 -- the number of an answer is 0, 7 or 9
 abbrev Numbered : Outcome → Type 0
-Numbered o = has (0 ∷ 7 ∷ 9 ∷ []) (o .number) ≡ true
+Numbered o = Gives (0 ∷ 7 ∷ 9 ∷ []) o
 
 settled-numbers : (r : Outcome) → (r .number ≡ 0) ⊎ (r ≡ broken) → Numbered r
 unfolding some?
@@ -136,17 +135,17 @@ enters-numbers t u v o h = go (ℕ-discrete (admission t u v .number) 0)
     go (no n) = rw (h .refused n) (admission-numbers t u v)
 
 -- what is found is what the question means
-module _ (ps t : List ℕ) (p : Prepared ps t) (u v : ℕ) (hu : u < length ps) (hv : v < length ps) (r : Reply) where
-  pub shares-right : Shares ps u v r → said r ≡ nearestOf ps u v
+module _ (ps t : List ℕ) (p : Prepared ps t) (u v : ℕ) (hu : u < length ps) (hv : v < length ps) (o : Outcome) where
+  pub shares-right : Shares ps u v o → o ≡ nearestOf ps u v
   unfolding ofBoth Option·elim
   shares-right s =
-      ap (λ x. record { number = x; word = r .word }) (s .found)
-      ∙ sym (rw (nearest-iff ps (small ps t p) (tree ps t p) u v (r .word) hu hv .1 (s .nearest)) (both-known (length ps) u v (accepted (r .word)) hu hv))
+      ap (λ x. record { number = x; word = o .word }) (s .found)
+      ∙ sym (rw (nearest-iff ps (small ps t p) (tree ps t p) u v (o .word) hu hv .1 (s .nearest)) (both-known (length ps) u v (accepted (o .word)) hu hv))
 
-  pub counts-right : Counts ps u v r → said r ≡ distanceOf ps u v
+  pub counts-right : Counts ps u v o → o ≡ distanceOf ps u v
   unfolding ofBoth Option·elim
   counts-right c =
-      ap (λ x. record { number = x; word = r .word }) (c .found)
+      ap (λ x. record { number = x; word = o .word }) (c .found)
       ∙ ap accepted (c .climbs)
       ∙ sym (rw (distance-depths ps (small ps t p) (tree ps t p) u v (c .class) hu hv (c .nearest) .2) (both-known (length ps) u v (accepted _) hu hv))
 
@@ -160,9 +159,9 @@ settled-refused n o (inl (z, h)) e = absurd (e z)
 settled-refused n o (inr q) e = q
 
 -- the climbs from two entries to the one that they share, by their words in DEPTH
-pub counted : (ps t : List ℕ) (n u v du dv dw : ℕ) (shared r : Reply) → Table ps t n → u < n → v < n → Shares ps u v shared
+pub counted : (ps t : List ℕ) (n u v du dv dw : ℕ) (shared r : Outcome) → Table ps t n → u < n → v < n → Shares ps u v shared
     → du ≡ wordAt t (depthCell n u) → dv ≡ wordAt t (depthCell n v) → dw ≡ wordAt t (depthCell n (shared .word))
-    → (dw ≤ du → dw ≤ dv → du < n → dv < n → said r ≡ accepted (du + dv - 2 * dw)) → Counts ps u v r
+    → (dw ≤ du → dw ≤ dv → du < n → dv < n → r ≡ accepted (du + dv - 2 * dw)) → Counts ps u v r
 counted ps t n u v du dv dw shared r of hu hv s eu ev ew right =
     let p = of .prepared in
     let k = small ps t p in

@@ -24,9 +24,9 @@ use query::entries;
 // The nearest common ancestor of u and v: the deepest class that holds both, which is the first entry on both climbs to the top.
 pub fn nearest_common_ancestor(table: &[u32], u: Node, v: Node) -> Reply
     ensures enters { λ r. ⌜ Enters (now (table .entry)) (u .0) (v .0) (said r) ⌝ }
-    ensures numbers { λ r. ⌜ Gives (0 ∷ 7 ∷ 9 ∷ []) r ⌝ }
-    ensures right { λ r. ⌜ Right (λ ps. nearestOf ps (u .0) (v .0)) (now (table .entry)) r ⌝ }
-    ensures known { λ r. ⌜ Known Shares (u .0) (v .0) (now (table .entry)) r ⌝ }
+    ensures numbers { λ r. ⌜ Gives (0 ∷ 7 ∷ 9 ∷ []) (said r) ⌝ }
+    ensures right { λ r. ⌜ Right (λ ps. nearestOf ps (u .0) (v .0)) (now (table .entry)) (said r) ⌝ }
+    ensures known { λ r. ⌜ Known Shares (u .0) (v .0) (now (table .entry)) (said r) ⌝ }
 {
     let open = admitted(table, u, v);
     if open.number != ACCEPTED {
@@ -38,9 +38,9 @@ pub fn nearest_common_ancestor(table: &[u32], u: Node, v: Node) -> Reply
 // The distance of u and v: the number of climbs between them through the class that they share.
 pub fn distance(table: &[u32], u: Node, v: Node) -> Reply
     ensures enters { λ r. ⌜ Enters (now (table .entry)) (u .0) (v .0) (said r) ⌝ }
-    ensures numbers { λ r. ⌜ Gives (0 ∷ 7 ∷ 9 ∷ []) r ⌝ }
-    ensures right { λ r. ⌜ Right (λ ps. distanceOf ps (u .0) (v .0)) (now (table .entry)) r ⌝ }
-    ensures known { λ r. ⌜ Known Counts (u .0) (v .0) (now (table .entry)) r ⌝ }
+    ensures numbers { λ r. ⌜ Gives (0 ∷ 7 ∷ 9 ∷ []) (said r) ⌝ }
+    ensures right { λ r. ⌜ Right (λ ps. distanceOf ps (u .0) (v .0)) (now (table .entry)) (said r) ⌝ }
+    ensures known { λ r. ⌜ Known Counts (u .0) (v .0) (now (table .entry)) (said r) ⌝ }
 {
     let open = admitted(table, u, v);
     if open.number != ACCEPTED {
@@ -77,7 +77,7 @@ fn admitted(table: &[u32], u: Node, v: Node) -> Reply
 fn climbs_between(table: &[u32], n: u32, u: Node, v: Node) -> Reply
     requires { ⌜ (Sized (now table) n) × (u .0 < n) × (v .0 < n) ⌝ }
     ensures settled { λ r. ⌜ (r .number ≡ 0) ⊎ (said r ≡ broken) ⌝ }
-    ensures right { λ r. ⌜ ((ps : List ℕ) → Table ps (now (table .entry)) n → Counts ps (u .0) (v .0) r) ⌝ }
+    ensures right { λ r. ⌜ ((ps : List ℕ) → Table ps (now (table .entry)) n → Counts ps (u .0) (v .0) (said r)) ⌝ }
 {
     let shared = nearest(table, n, u, v);
     if shared.number != ACCEPTED {

@@ -27,7 +27,7 @@ pub struct Found {
 pub(crate) fn nearest(table: &[u32], n: u32, u: Node, v: Node) -> Reply
     requires { ⌜ (Sized (now table) n) × (u .0 < n) × (v .0 < n) ⌝ }
     ensures settled { λ r. ⌜ Settled n (said r) ⌝ }
-    ensures right { λ r. ⌜ ((ps : List ℕ) → Table ps (now (table .entry)) n → Shares ps (u .0) (v .0) r) ⌝ }
+    ensures right { λ r. ⌜ ((ps : List ℕ) → Table ps (now (table .entry)) n → Shares ps (u .0) (v .0) (said r)) ⌝ }
 {
     let du = depth_of(table, n, u);
     let dv = depth_of(table, n, v);
@@ -41,7 +41,7 @@ pub(crate) fn nearest(table: &[u32], n: u32, u: Node, v: Node) -> Reply
 fn first_above(table: &[u32], n: u32, a: Node, b: Node, da: u32) -> Reply
     requires { ⌜ (n ≤ mostEntries) × (a .0 < n) × (b .0 < n) ⌝ }
     ensures settled { λ r. ⌜ Settled n (said r) ⌝ }
-    ensures right { λ r. ⌜ ((ps : List ℕ) → Given ps (now (table .entry)) n (a .0) (b .0) da → Shares ps (a .0) (b .0) r) ⌝ }
+    ensures right { λ r. ⌜ ((ps : List ℕ) → Given ps (now (table .entry)) n (a .0) (b .0) da → Shares ps (a .0) (b .0) (said r)) ⌝ }
 {
     let own = is_above(table, a, b);
     if own.number != ACCEPTED {

@@ -30,7 +30,7 @@ returns-2 c =
     let call = first .before .before .before in
     let shared = call .nearest in
     let pre = call .before .before .pre in
-    (c .climbs-through .ensures .0, λ ps of. counted ps _ _ _ _ _ _ _ (shared .result) (c .climbs-through .result) of (pre .1) (pre .2) (shared .ensures .1 ps of) (first .depth-of .ensures) (second .depth-of2 .ensures) (third .depth-of3 .ensures) (c .climbs-through .ensures .1))
+    (c .climbs-through .ensures .0, λ ps of. counted ps _ _ _ _ _ _ _ (said (shared .result)) (said (c .climbs-through .result)) of (pre .1) (pre .2) (shared .ensures .1 ps of) (first .depth-of .ensures) (second .depth-of2 .ensures) (third .depth-of3 .ensures) (c .climbs-through .ensures .1))
 
 pub climbs-between-spec : {M : Type 1} → statement M
 climbs-between-spec =

@@ -33,7 +33,7 @@ returns-2 c =
       (
         enters-numbers _ _ _ _ enters,
         (
-          λ ps p. let (of, hu, hv) = table-of _ _ _ o (step .ensures .0) (passed .if1 .left) ps p in counts-right ps _ p _ _ hu hv (c .climbs-between .result) (c .climbs-between .ensures .1 ps of),
+          λ ps p. let (of, hu, hv) = table-of _ _ _ o (step .ensures .0) (passed .if1 .left) ps p in counts-right ps _ p _ _ hu hv (said (c .climbs-between .result)) (c .climbs-between .ensures .1 ps of),
           λ ps p hu hv. c .climbs-between .ensures .1 ps (table-of _ _ _ o (step .ensures .0) (passed .if1 .left) ps p .0),
         ),
       ),

@@ -1,0 +1,19 @@
+-- `tantsheko_nearest_common_ancestor` meets its contract. Assumes nothing.
+use borrow.Author.Needs.{needs}
+use Rattle.common_ancestors.specs.Promises.{said}
+use Rattle.exports.proofs.tantsheko_nearest_common_ancestor.Statement.{statement}
+use Rattle.exports.proofs.tantsheko_nearest_common_ancestor.Tie as tie
+
+returns : tie.Need-returns
+returns c =
+    let found = c .before .nearest-common-ancestor in
+    let (enters, (numbers, (right, known))) = found .ensures in
+    record { answer = said (found .result); written = c .without-cells .ensures; enters = enters; numbers = numbers; right = right; known = known }
+
+pub tantsheko-nearest-common-ancestor-spec : {M : Type 1} → statement M
+tantsheko-nearest-common-ancestor-spec =
+    tie.close
+    (tie.spec
+    (λ c κs. search needs)
+    (λ c κs. search needs)
+    returns)
