@@ -95,6 +95,16 @@ void tantsheko_ancestry(const uint32_t *table, size_t table_len, uint32_t u, uin
 /* The child of u on the way to v. Reads at most fifteen cells. */
 void tantsheko_branch(const uint32_t *table, size_t table_len, uint32_t u, uint32_t v, tantsheko_answer *answer);
 
+/* The nearest common ancestor of u and v: the deepest class that holds both, which is the first entry on both climbs to the
+ * top. An entry is on its own climb, so two equal entries share themselves. Gives 0, 7 and 9. Lists no cells: their places and
+ * their count are 0. */
+void tantsheko_nearest_common_ancestor(const uint32_t *table, size_t table_len, uint32_t u, uint32_t v,
+                                       tantsheko_answer *answer);
+
+/* The distance of u and v: the number of climbs from u and from v to the class that they share. Otherwise as
+ * tantsheko_nearest_common_ancestor. */
+void tantsheko_distance(const uint32_t *table, size_t table_len, uint32_t u, uint32_t v, tantsheko_answer *answer);
+
 /* The premium of a sum insured for entry v at rating level d, with the class and the cells of the rating lookup. rates
  * has a rate per million for each entry, from entry 0 on; the premium is sum times the class's rate divided by 10,000, to the
  * nearest cent, a half going away from zero. Writes every word of the answer, and the cents. */

@@ -2,6 +2,7 @@
 //! as a page and a plot.
 
 mod page;
+mod pairs;
 mod plot;
 mod sheets;
 mod work;
@@ -25,11 +26,20 @@ fn main() -> std::io::Result<()> {
             rows.push(row);
         }
     }
-    println!("{}", page::summary(&rows));
+    let mut pairs: Vec<pairs::Row> = Vec::new();
+    for &n in sizes {
+        for kind in 0..pairs::KINDS {
+            for row in pairs::time(n, kind) {
+                println!("{}", page::pair_line(&row));
+                pairs.push(row);
+            }
+        }
+    }
+    println!("{} {}", page::summary(&rows), page::pair_summary(&pairs));
     if let Some(folder) = folder {
         let folder = std::path::Path::new(folder);
         std::fs::write(folder.join("benchmark.svg"), plot::plot(&rows))?;
-        std::fs::write(folder.join("BENCHMARK.md"), page::page(&rows))?;
+        std::fs::write(folder.join("BENCHMARK.md"), page::page(&rows, &pairs))?;
     }
     Ok(())
 }

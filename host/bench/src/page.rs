@@ -1,5 +1,6 @@
 //! What was measured, as lines and as a page.
 
+use crate::pairs;
 use crate::work::{median, Row, QUESTIONS};
 
 fn ratio(pair: [f64; 2]) -> f64 {
@@ -61,6 +62,66 @@ pub fn summary(rows: &[Row]) -> String {
     text
 }
 
+/// Which pairs of a tree were asked.
+fn which(row: &pairs::Row) -> &'static str {
+    if row.near {
+        "near"
+    } else {
+        "any"
+    }
+}
+
+/// A line on the terminal of questions about two entries.
+pub fn pair_line(row: &pairs::Row) -> String {
+    format!(
+        "{:7} {:12} pairs {:4}  nearest common ancestor {:.0} ({:.2})  distance {:.0} ({:.2})  plain climb {:.0}",
+        row.n,
+        row.kind,
+        which(row),
+        row.nearest[0],
+        ratio(row.nearest),
+        row.distance[0],
+        ratio(row.distance),
+        row.climb
+    )
+}
+
+/// The medians of the ratios of questions about two entries, and the greatest.
+pub fn pair_summary(rows: &[pairs::Row]) -> String {
+    let told = |name: &str, of: &dyn Fn(&pairs::Row) -> [f64; 2]| {
+        let all: Vec<f64> = rows.iter().map(|r| ratio(of(r))).collect();
+        let most = all.iter().copied().fold(0.0, f64::max);
+        format!(
+            "{name}: median ratio {:.2}, {most:.2} at the most.",
+            median(all)
+        )
+    };
+    format!(
+        "{} {}",
+        told("Nearest common ancestor", &|r| r.nearest),
+        told("Distance", &|r| r.distance)
+    )
+}
+
+fn pair_table(rows: &[pairs::Row]) -> String {
+    let mut text = String::from(
+        "| entries | kind | pairs | nearest common ancestor | distance | plain climb |\n|---:|---|---|---:|---:|---:|\n",
+    );
+    let told = |[a, b]: [f64; 2]| format!("{a:.1} / {b:.1} = {:.2}", a / b);
+    for r in rows {
+        text.push_str(&format!(
+            "| {} | {} | {} | {} | {} | {:.0} |\n",
+            r.n,
+            r.kind,
+            which(r),
+            told(r.nearest),
+            told(r.distance),
+            r.climb
+        ));
+    }
+    text
+}
+
 /// A line of a file of the system's that starts with a name.
 fn system(path: &str, name: &str) -> Option<String> {
     let text = std::fs::read_to_string(path).ok()?;
@@ -116,7 +177,7 @@ fn question_table(rows: &[Row]) -> String {
 }
 
 /// The whole page.
-pub fn page(rows: &[Row]) -> String {
+pub fn page(rows: &[Row], pairs: &[pairs::Row]) -> String {
     format!(
         "# Benchmark
 
@@ -126,11 +187,13 @@ have their numbers permuted. Preparing is in nanoseconds an entry, a question in
 depths up to the entry's; rating and premium at the depth of any entry, the premium with a rate for each entry and sums of both
 signs. A sheet with bands has 4,096 lines in any order, for the deepest level of at most 512 classes; its check is in
 microseconds, and a quotation of any entry is asked from the checked sheet. A plain climb and binary lifting answer the level
-lookup only, and list no cells.
+lookup only, and list no cells. The nearest common ancestor and the distance are asked of any two entries, and of two that
+are at most eight places apart in the preorder; by hand they are the same search with step 1 once and no cell noted. The plain
+climb from both goes by the list and the depths. A fork is two chains from the top.
 
 Machine: {}.
 
-{}
+{} {}
 
 ![Ratios of the proved code to the same work by hand](benchmark.svg)
 
@@ -143,12 +206,17 @@ Machine: {}.
 ## Questions, ns: proved / by hand = ratio
 
 {}
+## Questions about two entries, ns: proved / by hand = ratio
+
+{}
 {}",
         machine(),
         summary(rows),
+        pair_summary(pairs),
         work_table(rows, |r| r.prepare),
         work_table(rows, |r| r.check),
         question_table(rows),
+        pair_table(pairs),
         include_str!("choices.md")
     )
 }

@@ -1,6 +1,7 @@
 //! The class tree and its prepared table, written by hand in Rust from the paper. It shares nothing with the proved
 //! code, so that the two can be compared, word for word and in time.
 
+mod common;
 mod counting;
 mod premium;
 mod prepare;
@@ -9,6 +10,7 @@ mod shapes;
 mod sheets;
 pub mod trees;
 
+pub use common::{distance, nearest_common_ancestor};
 pub use counting::counted;
 pub use premium::{premium, Quote};
 pub use prepare::{prepare, space_words, table_words};

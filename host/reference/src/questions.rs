@@ -16,13 +16,41 @@ pub struct Answer {
 /// A refusal: its number and what it names.
 pub(crate) type Refusal = (u32, u32);
 
-const BROKEN: Refusal = (9, 0);
+pub(crate) const BROKEN: Refusal = (9, 0);
 
 /// A table as a question reads it: each read is noted.
 pub(crate) struct Reader<'a> {
     table: &'a [u32],
     cells: [u32; 15],
     count: usize,
+}
+
+/// Reading a table's cells.
+pub(crate) trait Reads {
+    fn read(&mut self, cell: usize) -> u32;
+
+    /// A word of a section of so many cells, or 9 where the index leaves it.
+    fn read_in(&mut self, start: usize, cells: usize, index: usize) -> Result<u32, Refusal> {
+        if index >= cells {
+            return Err(BROKEN);
+        }
+        Ok(self.read(start + index))
+    }
+}
+
+impl Reads for Reader<'_> {
+    fn read(&mut self, cell: usize) -> u32 {
+        self.cells[self.count] = cell as u32;
+        self.count += 1;
+        self.table[cell]
+    }
+}
+
+/// A table whose reads are not noted.
+impl Reads for &[u32] {
+    fn read(&mut self, cell: usize) -> u32 {
+        self[cell]
+    }
 }
 
 impl<'a> Reader<'a> {
@@ -34,31 +62,9 @@ impl<'a> Reader<'a> {
         }
     }
 
-    fn read(&mut self, cell: usize) -> u32 {
-        self.cells[self.count] = cell as u32;
-        self.count += 1;
-        self.table[cell]
-    }
-
-    /// A word of a section of so many cells, or 9 where the index leaves it.
-    fn read_in(&mut self, start: usize, cells: usize, index: usize) -> Result<u32, Refusal> {
-        if index >= cells {
-            return Err(BROKEN);
-        }
-        Ok(self.read(start + index))
-    }
-
     /// Step 1.
     pub(crate) fn open(&mut self) -> Result<Sections, Refusal> {
-        if self.table.len() < 4 {
-            return Err(BROKEN);
-        }
-        let n = self.read(0) as usize;
-        let s = Sections { n };
-        if n == 0 || n > MOST || self.table.len() < s.words() {
-            return Err(BROKEN);
-        }
-        Ok(s)
+        open(self, self.table.len())
     }
 
     pub(crate) fn answer(self, result: Result<u32, Refusal>) -> Answer {
@@ -75,7 +81,20 @@ impl<'a> Reader<'a> {
     }
 }
 
-fn known(word: u32, s: Sections) -> Result<u32, Refusal> {
+/// Step 1, of a table of so many words.
+pub(crate) fn open(r: &mut impl Reads, len: usize) -> Result<Sections, Refusal> {
+    if len < 4 {
+        return Err(BROKEN);
+    }
+    let n = r.read(0) as usize;
+    let s = Sections { n };
+    if n == 0 || n > MOST || len < s.words() {
+        return Err(BROKEN);
+    }
+    Ok(s)
+}
+
+pub(crate) fn known(word: u32, s: Sections) -> Result<u32, Refusal> {
     if word as usize >= s.n {
         Err(BROKEN)
     } else {
@@ -96,6 +115,18 @@ fn look(
     }
     let depth = known(r.read(s.depth() + v as usize), s)?;
     let d = wanted(depth).ok_or((8, v))?;
+    ancestor_at(r, s, v, depth, d)
+}
+
+/// Steps 3 and 4: the ancestor at depth d of v, which has that depth.
+#[inline(always)]
+pub(crate) fn ancestor_at(
+    r: &mut impl Reads,
+    s: Sections,
+    v: u32,
+    depth: u32,
+    d: u32,
+) -> Result<u32, Refusal> {
     if d == depth {
         return Ok(v);
     }

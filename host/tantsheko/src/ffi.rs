@@ -20,6 +20,14 @@ extern "C" {
     pub fn tantsheko_rating(table: *const u32, len: usize, v: u32, d: u32, answer: *mut Answer);
     pub fn tantsheko_ancestry(table: *const u32, len: usize, u: u32, v: u32, answer: *mut Answer);
     pub fn tantsheko_branch(table: *const u32, len: usize, u: u32, v: u32, answer: *mut Answer);
+    pub fn tantsheko_nearest_common_ancestor(
+        table: *const u32,
+        len: usize,
+        u: u32,
+        v: u32,
+        answer: *mut Answer,
+    );
+    pub fn tantsheko_distance(table: *const u32, len: usize, u: u32, v: u32, answer: *mut Answer);
     pub fn tantsheko_premium(
         table: *const u32,
         table_len: usize,

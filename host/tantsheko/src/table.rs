@@ -1,4 +1,4 @@
-//! A prepared table and the five questions.
+//! A prepared table and its questions.
 
 use crate::ffi;
 use crate::refusal::Refusal;
@@ -149,6 +149,18 @@ impl Table {
     #[inline]
     pub fn branch(&self, u: u32, v: u32) -> Answer {
         self.ask(ffi::tantsheko_branch, u, v)
+    }
+
+    /// The deepest class that holds both u and v: their nearest common ancestor. It lists no cells.
+    #[inline]
+    pub fn nearest_common_ancestor(&self, u: u32, v: u32) -> Answer {
+        self.ask(ffi::tantsheko_nearest_common_ancestor, u, v)
+    }
+
+    /// The number of climbs between u and v through that class. It lists no cells.
+    #[inline]
+    pub fn distance(&self, u: u32, v: u32) -> Answer {
+        self.ask(ffi::tantsheko_distance, u, v)
     }
 }
 

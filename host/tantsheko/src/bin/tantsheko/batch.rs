@@ -23,6 +23,8 @@ fn answer(table: &Table, line: &[u8]) -> Option<Answer> {
         b"rating" => Some(table.rating(a, b)),
         b"above" => Some(table.ancestry(a, b)),
         b"branch" => Some(table.branch(a, b)),
+        b"shared" => Some(table.nearest_common_ancestor(a, b)),
+        b"distance" => Some(table.distance(a, b)),
         _ => None,
     }
 }

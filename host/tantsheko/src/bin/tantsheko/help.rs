@@ -1,7 +1,7 @@
 //! What each command does.
 
 /// Name, arguments, one line, and more.
-pub const COMMANDS: [(&str, &str, &str, &str); 13] = [
+pub const COMMANDS: [(&str, &str, &str, &str); 14] = [
     (
         "prepare",
         "LIST TABLE",
@@ -36,15 +36,26 @@ With --cells a second line lists the cells of the table that were read.",
         "With --cells a second line lists the cells of the table that were read.",
     ),
     (
+        "shared",
+        "TABLE ENTRY ENTRY",
+        "the deepest class that holds two entries, and the climbs between them",
+        "Prints `class,climbs`: the first entry on both climbs to the top, and how many climbs
+lead from the one entry to it and from the other. An entry is on its own climb: two
+equal entries share themselves, and an entry above the other is the class.
+It lists no cells: the metering clause does not cover it.",
+    ),
+    (
         "batch",
         "TABLE < QUESTIONS > ANSWERS",
         "answer a stream of questions",
         "A question is a line: `entry,depth` for a class, or one of `class,entry,depth`,
-`climb,entry,count`, `rating,entry,level`, `above,upper,lower`, `branch,upper,lower`.
+`climb,entry,count`, `rating,entry,level`, `above,upper,lower`, `branch,upper,lower`,
+`shared,entry,entry`, `distance,entry,entry`.
 A class is as `class` gives it; a rating is the class at that level, or the entry
-itself where it is less deep.
+itself where it is less deep; shared and distance are the two results of `shared`.
 Each answer is the question with `,refusal,result,cells` behind it: refusal is 0 if
-there is a result, else the result is -; cells is how many cells were read.
+there is a result, else the result is -; cells is how many cells were read, 0 for
+shared and distance.
 A line of another form ends the stream, after the answers to the lines before it.",
     ),
     (

@@ -7,6 +7,7 @@ mod premiums;
 mod prepare;
 mod prices;
 mod quotes;
+mod shared;
 mod sheets;
 mod stream;
 
@@ -102,6 +103,7 @@ fn run(args: &[String]) -> Done {
         "prepare" => prepare::prepare(rest),
         "check" => prepare::check(rest),
         "batch" => batch::batch(rest),
+        "shared" => shared::shared(rest),
         "pricelist" => prices::pricelist(rest),
         "premium" => premiums::premium(rest),
         "premiums" => premiums::premiums(rest),
