@@ -6,6 +6,7 @@ use mathlib.Core.Option.{some}
 use Prim.Native.Nat.{ℕ, zero, suc, _+_, _-_, _≤_, _<_}
 use native.Mathlib.Omega.{arith}
 use Rattle.base.specs.Limits.{depthCell}
+use Rattle.base.specs.Numbers.{Outcome, accepted}
 use Rattle.tree.specs.Parents.{up}
 use Rattle.tree.specs.Level.{Ancestor}
 use Rattle.tree.proofs.Climbs.{entry-some, up-add}
@@ -18,7 +19,7 @@ use Rattle.common_ancestors.specs.Promises.{Shares}
 use Rattle.common_ancestors.specs.Parts.{Table, Given, Tried}
 use Rattle.common_ancestors.specs.declared.trial.Trial.{Trial}
 use Rattle.common_ancestors.proofs.Climbs.{Meets, meets-nearest}
-use Rattle.common_ancestors.proofs.Theorems.{nearest-above}
+use Rattle.common_ancestors.proofs.Theorems.{nearest-above, nearest-turned}
 
 -- fewer than `low` climbs from a lead to no entry on b's climb, and `high` climbs to `word`, which is one, where a is as deep
 pub record Narrowed (ps : List ℕ) (a b da low high word : ℕ) : Type 0 where
@@ -29,13 +30,18 @@ pub record Narrowed (ps : List ℕ) (a b da low high word : ℕ) : Type 0 where
 pub given : (ps t : List ℕ) (n a b da : ℕ) → Table ps t n → a < n → b < n → da ≡ wordAt t (depthCell n a) → Given ps t n a b da
 given ps t n a b da of ha hb e = record { of = of; deep = e ∙ depth-word ps t (of .prepared) a (omega (arith, of .count)); first = ha; second = hb }
 
+module _ (ps t : List ℕ) (n : ℕ) (of : Table ps t n) (a b : ℕ) where
+  -- a, where it is at or above b
+  pub own-shares : Ancestor ps a b → Shares ps a b (accepted a)
+  own-shares h = record { found = refl; nearest = nearest-above ps (small ps t (of .prepared)) (tree ps t (of .prepared)) a b h }
+
+  -- what they share is the same in either order
+  pub shares-turned : (o : Outcome) → Shares ps a b o → Shares ps b a o
+  shares-turned o s = record { found = s .found; nearest = nearest-turned ps (small ps t (of .prepared)) (tree ps t (of .prepared)) a b (o .word) (s .nearest) }
+
 module _ (ps t : List ℕ) (n a b da : ℕ) (g : Given ps t n a b da) where
   pub given-shallow : da < n
   given-shallow = omega (arith, g .deep, g .of .count, depth-less ps (small ps t (g .of .prepared)) (tree ps t (g .of .prepared)) a (omega (arith, g .first, g .of .count)))
-
-  -- a, where it is at or above b
-  pub own-shares : Ancestor ps a b → Shares ps a b (record { number = 0; word = a })
-  own-shares h = record { found = refl; nearest = nearest-above ps (small ps t (g .of .prepared)) (tree ps t (g .of .prepared)) a b h }
 
   pub narrowed-start : (Ancestor ps a b → ⊥) → Narrowed ps a b da 1 (da + 1) 0
   unfolding up
@@ -51,7 +57,7 @@ module _ (ps t : List ℕ) (n a b da : ℕ) (g : Given ps t n a b da) where
 
   module _ (low high word k : ℕ) (s : Narrowed ps a b da low high word) (h : k ≤ da) (r : Trial) (right : (x : ℕ) → up ps k a ≡ some x → Tried ps x b r) where
     pub tried-known : r .number ≡ 0
-    tried-known = let (x, e) = climbed k h in right x e .tells .told
+    tried-known = let (x, e) = climbed k h in right x e .found
 
     pub narrowed-hit : r .above ≡ true → Narrowed ps a b da low k (r .word)
     narrowed-hit y = let (x, e) = climbed k h in let m = right x e in record { below = s .below; hit = λ i. rw (m .entry) (e, m .tells .yes y) }

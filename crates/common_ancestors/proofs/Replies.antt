@@ -154,10 +154,6 @@ pub settled-number : (n : ℕ) (o : Outcome) → Settled n o → (o .number ≡ 
 settled-number n o (inl (z, h)) = inl z
 settled-number n o (inr q) = inr q
 
-pub settled-refused : (n : ℕ) (o : Outcome) → Settled n o → (o .number ≡ 0 → ⊥) → o ≡ broken
-settled-refused n o (inl (z, h)) e = absurd (e z)
-settled-refused n o (inr q) e = q
-
 -- the climbs from two entries to the one that they share, by their words in DEPTH
 pub counted : (ps t : List ℕ) (n u v du dv dw : ℕ) (shared r : Outcome) → Table ps t n → u < n → v < n → Shares ps u v shared
     → du ≡ wordAt t (depthCell n u) → dv ≡ wordAt t (depthCell n v) → dw ≡ wordAt t (depthCell n (shared .word))

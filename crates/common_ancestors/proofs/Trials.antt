@@ -2,7 +2,7 @@
 use mathlib.Core.Path.{_≡_, sym, ap, _∙_}
 use mathlib.Core.Logic.{_↔_, inl, inr}
 use mathlib.Core.List.{List}
-use mathlib.Core.Bool.{Bool, true, false, cond}
+use mathlib.Core.Bool.{cond}
 use mathlib.Core.Option.{some}
 use Prim.Native.Nat.{ℕ, _<_}
 use native.Mathlib.Omega.{arith}
@@ -23,29 +23,23 @@ use Rattle.climbs.proofs.Questions.{climb-right}
 use Rattle.query.specs.Lookups.{fromLookup}
 use Rattle.query.specs.declared.look.Lookup.the-variants.{Climb}
 use Rattle.query.proofs.Ratings.{firstTwo, outcome-words}
-use Rattle.table.specs.Preparing.{Prepared}
 use Rattle.common_ancestors.specs.Parts.{Settled, Table, Tells}
 
 module _ (ps t : List ℕ) (n : ℕ) (of : Table ps t n) where
   -- ancestry's word is 1 just where the first is at or above the second
-  pub ancestry-tells : (w b : ℕ) (o : Outcome) → w < n → b < n → o ≡ ancestryOf ps w b → Tells ps w b (o .number) (eqb (o .word) 1)
-  unfolding ancestryOf
-  ancestry-tells w b o hw hb e = record { told = ap (λ x. x .number) (e ∙ counted); yes = λ q. iff .0 (sym e ∙ one q (e ∙ counted)); no = λ q a. eqb-false _ _ q (ap (λ x. x .word) (e ∙ iff .1 a)) }
-    where
-      p : Prepared ps t
-      p = of .prepared
+  module _ (w b : ℕ) (o : Outcome) (hw : w < n) (hb : b < n) (e : o ≡ ancestryOf ps w b) where
+    answered : o ≡ accepted (cond (has (climb ps b) w) 1 0)
+    unfolding ancestryOf
+    answered = let iw : w < length ps = omega (arith, of .count) in let ib : b < length ps = omega (arith, of .count) in e ∙ rw (lt-leb (length ps) w iw, lt-leb (length ps) b ib)
 
-      inside : (x : ℕ) → x < n → x < length ps
-      inside x h = omega (arith, of .count)
+    pub ancestry-known : o .number ≡ 0
+    ancestry-known = ap (λ x. x .number) answered
 
-      iff : (ancestryOf ps w b ≡ accepted 1) ↔ Ancestor ps w b
-      iff = ancestry-iff ps (small ps t p) (tree ps t p) w b (inside w hw) (inside b hb)
-
-      counted : ancestryOf ps w b ≡ accepted (cond (has (climb ps b) w) 1 0)
-      counted = rw (lt-leb (length ps) w (inside w hw), lt-leb (length ps) b (inside b hb))
-
-      one : eqb (o .word) 1 ≡ true → o ≡ accepted (cond (has (climb ps b) w) 1 0) → o ≡ accepted 1
-      one q f = f ∙ ap accepted (sym (ap (λ x. x .word) f) ∙ eqb-true _ _ q)
+    pub ancestry-tells : Tells ps w b (eqb (o .word) 1)
+    ancestry-tells = record { yes = λ q. iff .0 (sym e ∙ answered ∙ ap accepted (sym (ap (λ x. x .word) answered) ∙ eqb-true _ _ q)); no = λ q a. eqb-false _ _ q (ap (λ x. x .word) (e ∙ iff .1 a)) }
+      where
+        iff : (ancestryOf ps w b ≡ accepted 1) ↔ Ancestor ps w b
+        iff = ancestry-iff ps (small ps t (of .prepared)) (tree ps t (of .prepared)) w b (omega (arith, of .count)) (omega (arith, of .count))
 
   -- a lookup's words have the entry so many climbs above
   pub climb-reaches : (a k x : ℕ) (words : List ℕ) → words ≡ answerWords (answerTo t (opened (length t) (fromLookup Climb a k))) → up ps k a ≡ some x → firstTwo words ≡ accepted x

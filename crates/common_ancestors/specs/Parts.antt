@@ -9,7 +9,12 @@ use Rattle.base.specs.Numbers.{Outcome, broken}
 use Rattle.tree.specs.Parents.{depth}
 use Rattle.tree.specs.Level.{Ancestor}
 use Rattle.table.specs.Preparing.{Prepared}
+use Rattle.common_ancestors.specs.declared.search.Found.{Found}
 use Rattle.common_ancestors.specs.declared.trial.Trial.{Trial}
+
+-- what a search found, as number and word
+abbrev pub found : Found → Outcome
+found r = record { number = r .number; word = r .word }
 
 -- an entry of n, or 9
 abbrev pub Settled : ℕ → Outcome → Type 0
@@ -28,12 +33,12 @@ pub record Given (ps t : List ℕ) (n a b da : ℕ) : Type 0 where
   pub second : b < n
 
 -- whether w is at or above b was told
-pub record Tells (ps : List ℕ) (w b number : ℕ) (above : Bool) : Type 0 where
-  pub told : number ≡ 0
+pub record Tells (ps : List ℕ) (w b : ℕ) (above : Bool) : Type 0 where
   pub yes : above ≡ true → Ancestor ps w b
   pub no : above ≡ false → Ancestor ps w b → ⊥
 
 -- the entry x was tried
 pub record Tried (ps : List ℕ) (x b : ℕ) (r : Trial) : Type 0 where
+  pub found : r .number ≡ 0
   pub entry : r .word ≡ x
-  pub tells : Tells ps x b (r .number) (r .above)
+  pub tells : Tells ps x b (r .above)

@@ -32,7 +32,11 @@ pub fn nearest_common_ancestor(table: &[u32], u: Node, v: Node) -> Reply
     if open.number != ACCEPTED {
         return open;
     }
-    nearest(table, open.word, u, v)
+    let found = nearest(table, open.word, u, v);
+    Reply {
+        number: found.number,
+        word: found.word,
+    }
 }
 
 // The distance of u and v: the number of climbs between them through the class that they share.
@@ -81,7 +85,7 @@ fn climbs_between(table: &[u32], n: u32, u: Node, v: Node) -> Reply
 {
     let shared = nearest(table, n, u, v);
     if shared.number != ACCEPTED {
-        return shared;
+        return broken();
     }
     let first = depth_of(table, n, u);
     let second = depth_of(table, n, v);

@@ -4,72 +4,77 @@ ghost use mathlib.Core.List.{List};
 ghost use Prim.Native.Nat.{ℕ, _+_, _*_, _<_, _≤_};
 ghost use Rattle.base.specs.Limits.{Sized, mostEntries};
 ghost use Rattle.tree.specs.Level.{Ancestor};
-ghost use Rattle.common_ancestors.specs.Promises.{said, Shares};
-ghost use Rattle.common_ancestors.specs.Parts.{Table, Given, Settled};
-use crate::trial::broken;
+ghost use Rattle.common_ancestors.specs.Promises.{Shares};
+ghost use Rattle.common_ancestors.specs.Parts.{Table, Given, Settled, found};
 use crate::trial::depth_of;
 use crate::trial::is_above;
 use crate::trial::tried;
 use base::Node;
-use base::Reply;
 use base::limits::MOST_ENTRIES;
 use base::numbers::ACCEPTED;
 use base::numbers::BROKEN;
 
-// What a search found, and how many entries it tried: for each a lookup and a test.
+// What was found, and how many entries were tried: for each a lookup and a test.
 pub struct Found {
     pub number: u32,
     pub word: u32,
     pub tries: u32,
 }
 
-// The first entry on both climbs.
-pub(crate) fn nearest(table: &[u32], n: u32, u: Node, v: Node) -> Reply
+// The first entry on both climbs. An entry above the other is the answer; the search is from the entry that is less deep.
+pub(crate) fn nearest(table: &[u32], n: u32, u: Node, v: Node) -> Found
     requires { ⌜ (Sized (now table) n) × (u .0 < n) × (v .0 < n) ⌝ }
-    ensures settled { λ r. ⌜ Settled n (said r) ⌝ }
-    ensures right { λ r. ⌜ ((ps : List ℕ) → Table ps (now (table .entry)) n → Shares ps (u .0) (v .0) (said r)) ⌝ }
+    ensures few { λ r. ⌜ r .tries ≤ 23 ⌝ }
+    ensures settled { λ r. ⌜ Settled n (found r) ⌝ }
+    ensures right { λ r. ⌜ ((ps : List ℕ) → Table ps (now (table .entry)) n → Shares ps (u .0) (v .0) (found r)) ⌝ }
 {
     let du = depth_of(table, n, u);
     let dv = depth_of(table, n, v);
     if dv < du {
-        return first_above(table, n, v, u, dv);
+        if is_above(table, v, u) {
+            return itself(v);
+        }
+        return search(table, n, v, u, dv);
     }
-    first_above(table, n, u, v, du)
+    if is_above(table, u, v) {
+        return itself(u);
+    }
+    search(table, n, u, v, du)
 }
 
-// The first entry of a's climb that is on b's, where a is `da` deep.
-fn first_above(table: &[u32], n: u32, a: Node, b: Node, da: u32) -> Reply
-    requires { ⌜ (n ≤ mostEntries) × (a .0 < n) × (b .0 < n) ⌝ }
-    ensures settled { λ r. ⌜ Settled n (said r) ⌝ }
-    ensures right { λ r. ⌜ ((ps : List ℕ) → Given ps (now (table .entry)) n (a .0) (b .0) da → Shares ps (a .0) (b .0) (said r)) ⌝ }
+// An entry that is at or above the other.
+fn itself(a: Node) -> Found
+    ensures { λ r. ⌜ r ≡ record { number = 0; word = a .0; tries = 0 } ⌝ }
 {
-    let own = is_above(table, a, b);
-    if own.number != ACCEPTED {
-        return broken();
-    }
-    if own.above {
-        return Reply {
-            number: ACCEPTED,
-            word: a.0,
-        };
-    }
-    if n <= da {
-        return broken();
-    }
-    let found = search(table, n, a, b, da);
-    Reply {
-        number: found.number,
-        word: found.word,
+    Found {
+        number: ACCEPTED,
+        word: a.0,
+        tries: 0,
     }
 }
 
-// The same, where a is not at or above b. Fewer than `low` climbs from a lead to no entry of b's climb, and `high` climbs lead to `word`, which is one.
+// 9, after so many tries.
+fn broken_after(tries: u32) -> Found
+    ensures { λ r. ⌜ r ≡ record { number = 9; word = 0; tries = tries } ⌝ }
+{
+    Found {
+        number: BROKEN,
+        word: 0,
+        tries,
+    }
+}
+
+// The first entry of a's climb that is on b's, where a is `da` deep and not at or above b. Fewer than `low` climbs from a lead to no entry of b's climb, and `high`
+// climbs lead to `word`, which is one.
 fn search(table: &[u32], n: u32, a: Node, b: Node, da: u32) -> Found
-    requires { ⌜ (n ≤ mostEntries) × (da < n) ⌝ }
+    requires { ⌜ n ≤ mostEntries ⌝ }
     ensures few { λ r. ⌜ r .tries ≤ 23 ⌝ }
-    ensures settled { λ r. ⌜ Settled n (record { number = r .number; word = r .word }) ⌝ }
-    ensures right { λ r. ⌜ ((ps : List ℕ) → Given ps (now (table .entry)) n (a .0) (b .0) da → (Ancestor ps (a .0) (b .0) → ⊥) → Shares ps (a .0) (b .0) (record { number = r .number; word = r .word })) ⌝ }
+    ensures settled { λ r. ⌜ Settled n (found r) ⌝ }
+    ensures right { λ r. ⌜ ((ps : List ℕ) → Given ps (now (table .entry)) n (a .0) (b .0) da → (Ancestor ps (a .0) (b .0) → ⊥) → Shares ps (a .0) (b .0) (found r)) ⌝ }
 {
+    if n <= da {
+        return broken_after(0);
+    }
     let mut low: u32 = 1;
     let mut high = da + 1;
     let mut word: u32 = 0;
@@ -79,11 +84,7 @@ fn search(table: &[u32], n: u32, a: Node, b: Node, da: u32) -> Found
         let t = tried(table, n, a, b, k);
         tries += 1;
         if t.number != ACCEPTED {
-            return Found {
-                number: BROKEN,
-                word: 0,
-                tries,
-            };
+            return broken_after(tries);
         }
         if t.above {
             high = k;
@@ -95,11 +96,7 @@ fn search(table: &[u32], n: u32, a: Node, b: Node, da: u32) -> Found
         }
     }
     if da < high {
-        return Found {
-            number: BROKEN,
-            word: 0,
-            tries,
-        };
+        return broken_after(tries);
     }
     Found {
         number: ACCEPTED,

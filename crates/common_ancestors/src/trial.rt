@@ -19,12 +19,6 @@ use query::Lookup;
 use query::ancestry;
 use query::look_words;
 
-// Whether an entry is at or above another. The number is not 0 where the table does not say.
-pub struct Test {
-    pub number: u32,
-    pub above: bool,
-}
-
 // An entry of a climb, and whether it is at or above another.
 pub struct Trial {
     pub number: u32,
@@ -52,14 +46,14 @@ pub(crate) fn broken() -> Reply
 }
 
 // Whether w is at or above b.
-pub(crate) fn is_above(table: &[u32], w: Node, b: Node) -> Test
-    ensures { λ r. ⌜ ((ps : List ℕ) (n : ℕ) → Table ps (now (table .entry)) n → w .0 < n → b .0 < n → Tells ps (w .0) (b .0) (r .number) (r .above)) ⌝ }
+pub(crate) fn is_above(table: &[u32], w: Node, b: Node) -> bool
+    ensures { λ r. ⌜ ((ps : List ℕ) (n : ℕ) → Table ps (now (table .entry)) n → w .0 < n → b .0 < n → Tells ps (w .0) (b .0) r) ⌝ }
 {
     let relation = ancestry(table, w, b);
-    Test {
-        number: relation.number,
-        above: relation.word == 1,
+    if relation.number != ACCEPTED {
+        return false;
     }
+    relation.word == 1
 }
 
 // The entry k climbs above a, or 9.
@@ -95,10 +89,9 @@ pub(crate) fn tried(table: &[u32], n: u32, a: Node, b: Node, k: u32) -> Trial
             above: false,
         };
     }
-    let test = is_above(table, Node(word), b);
     Trial {
-        number: test.number,
+        number: ACCEPTED,
         word,
-        above: test.above,
+        above: is_above(table, Node(word), b),
     }
 }

@@ -2,6 +2,7 @@
 use borrow.Author.Needs.{needs}
 use Rattle.common_ancestors.proofs.Replies.{refused-enters, refused-right, refused-known, passed-enters, table-of, enters-numbers, settled-number, shares-right}
 use Rattle.common_ancestors.specs.Promises.{said}
+use Rattle.common_ancestors.specs.Parts.{found}
 use Rattle.common_ancestors.proofs.nearest_common_ancestor.Statement.{statement}
 use Rattle.common_ancestors.proofs.nearest_common_ancestor.Tie as tie
 
@@ -28,13 +29,13 @@ returns-2 c =
     let passed = c .before in
     let step = passed .before .before .admitted in
     let o = said (step .result) in
-    let enters = passed-enters _ _ _ o (step .ensures .0) (passed .if1 .left) (said (c .nearest .result)) (settled-number _ _ (c .nearest .ensures .0)) in (
+    let enters = passed-enters _ _ _ o (step .ensures .0) (passed .if1 .left) (found (c .nearest .result)) (settled-number _ _ (c .nearest .ensures .1 .0)) in (
       enters,
       (
         enters-numbers _ _ _ _ enters,
         (
-          λ ps p. let (of, hu, hv) = table-of _ _ _ o (step .ensures .0) (passed .if1 .left) ps p in shares-right ps _ p _ _ hu hv (said (c .nearest .result)) (c .nearest .ensures .1 ps of),
-          λ ps p hu hv. c .nearest .ensures .1 ps (table-of _ _ _ o (step .ensures .0) (passed .if1 .left) ps p .0),
+          λ ps p. let (of, hu, hv) = table-of _ _ _ o (step .ensures .0) (passed .if1 .left) ps p in shares-right ps _ p _ _ hu hv (found (c .nearest .result)) (c .nearest .ensures .1 .1 ps of),
+          λ ps p hu hv. c .nearest .ensures .1 .1 ps (table-of _ _ _ o (step .ensures .0) (passed .if1 .left) ps p .0),
         ),
       ),
     )

@@ -1,6 +1,6 @@
 -- `trial::tried` meets its contract. Assumes nothing.
 use mathlib.Core.Logic.{inl, inr}
-use mathlib.Core.Path.{ap}
+use mathlib.Core.Path.{refl, ap}
 use native.Mathlib.Omega.{arith}
 use borrow.Author.Needs.{needs}
 use Rattle.common_ancestors.proofs.Trials.{settled-word}
@@ -16,7 +16,7 @@ returns-2 : tie.Need-returns-2
 returns-2 c =
     let reached = c .before .before .before .climbed in
     let known = settled-word _ _ (reached .ensures .0) (c .before .if1 .left) in
-    (λ z. known, λ ps of hb x e. let q = ap (λ o. o .word) (reached .ensures .1 ps of x e) in record { entry = q; tells = rw q at (c .is-above .ensures ps _ of known hb) })
+    (λ z. known, λ ps of hb x e. let q = ap (λ o. o .word) (reached .ensures .1 ps of x e) in record { found = refl; entry = q; tells = rw q at (c .is-above .ensures ps _ of known hb) })
 
 pub tried-spec : {M : Type 1} → statement M
 tried-spec = tie.close (tie.spec (λ c κs. search needs) returns (λ c κs. search needs) returns-2)
