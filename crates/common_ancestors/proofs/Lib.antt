@@ -4,4 +4,5 @@ pub mod Theorems
 pub mod Trials
 pub mod Halving
 pub mod Narrowing
+pub mod Ends
 pub mod Replies

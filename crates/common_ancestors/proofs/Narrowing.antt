@@ -5,21 +5,26 @@ use mathlib.Core.Bool.{true, false}
 use mathlib.Core.Option.{some}
 use Prim.Native.Nat.{ℕ, zero, suc, _+_, _-_, _≤_, _<_}
 use native.Mathlib.Omega.{arith}
-use Rattle.base.specs.Limits.{depthCell}
-use Rattle.base.specs.Numbers.{Outcome, accepted}
-use Rattle.tree.specs.Parents.{up}
+use lib.ListN.{length}
+use Rattle.base.specs.Limits.{topMark, depthCell}
+use Rattle.tree.specs.Parents.{up, depth}
 use Rattle.tree.specs.Level.{Ancestor}
-use Rattle.tree.proofs.Climbs.{entry-some, up-add}
+use Rattle.tree.specs.Faults.{Tree}
+use Rattle.tree.proofs.Climbs.{entry-in, entry-some, up-add}
 use Rattle.tree.proofs.Depths.{up-some, up-depth}
 use Rattle.tree.proofs.Intervals.{ancestor-trans, depth-less}
 use Rattle.answers.specs.Reading.{wordAt}
 use Rattle.climbs.proofs.TableWords.{small, tree, depth-word}
 use Rattle.common_ancestors.specs.Common.{Nearest}
-use Rattle.common_ancestors.specs.Promises.{Shares}
-use Rattle.common_ancestors.specs.Parts.{Table, Given, Tried}
+use Rattle.common_ancestors.specs.Parts.{Table, Given, Tried, Reaches, Nears}
+use Rattle.common_ancestors.specs.declared.search.Found.{Found}
 use Rattle.common_ancestors.specs.declared.trial.Trial.{Trial}
 use Rattle.common_ancestors.proofs.Climbs.{Meets, meets-nearest}
 use Rattle.common_ancestors.proofs.Theorems.{nearest-above, nearest-turned}
+
+-- what two entries share, and the climbs between them, are the same in either order
+pub nears-turned : (ps : List ℕ) (small : length ps ≤ topMark) (tree : Tree ps) (a b : ℕ) (r : Found) → Nears ps a b r → Nears ps b a r
+nears-turned ps small tree a b r m = record { found = m .found; nearest = nearest-turned ps small tree a b (r .word) (m .nearest); climbs = omega (arith, m .climbs) }
 
 -- fewer than `low` climbs from a lead to no entry on b's climb, and `high` climbs to `word`, which is one, where a is as deep
 pub record Narrowed (ps : List ℕ) (a b da low high word : ℕ) : Type 0 where
@@ -30,18 +35,23 @@ pub record Narrowed (ps : List ℕ) (a b da low high word : ℕ) : Type 0 where
 pub given : (ps t : List ℕ) (n a b da : ℕ) → Table ps t n → a < n → b < n → da ≡ wordAt t (depthCell n a) → Given ps t n a b da
 given ps t n a b da of ha hb e = record { of = of; deep = e ∙ depth-word ps t (of .prepared) a (omega (arith, of .count)); first = ha; second = hb }
 
-module _ (ps t : List ℕ) (n : ℕ) (of : Table ps t n) (a b : ℕ) where
-  -- a, where it is at or above b
-  pub own-shares : Ancestor ps a b → Shares ps a b (accepted a)
-  own-shares h = record { found = refl; nearest = nearest-above ps (small ps t (of .prepared)) (tree ps t (of .prepared)) a b h }
-
-  -- what they share is the same in either order
-  pub shares-turned : (o : Outcome) → Shares ps a b o → Shares ps b a o
-  shares-turned o s = record { found = s .found; nearest = nearest-turned ps (small ps t (of .prepared)) (tree ps t (of .prepared)) a b (o .word) (s .nearest) }
-
 module _ (ps t : List ℕ) (n a b da : ℕ) (g : Given ps t n a b da) where
   pub given-shallow : da < n
   given-shallow = omega (arith, g .deep, g .of .count, depth-less ps (small ps t (g .of .prepared)) (tree ps t (g .of .prepared)) a (omega (arith, g .first, g .of .count)))
+
+  -- a, where it is at or above b
+  pub own-reached : (tries : ℕ) → Ancestor ps a b → Reaches ps a b (record { number = 0; word = a; climbs = 0; tries = tries })
+  unfolding up
+  own-reached tries h = record { found = refl; reached = entry-in ps a (omega (arith, g .first, g .of .count)); nearest = nearest-above ps (small ps t (g .of .prepared)) (tree ps t (g .of .prepared)) a b h }
+
+  -- the climbs from b too, which is so much deeper
+  pub reached-both : (db : ℕ) (r : Found) → db ≡ depth ps b → da ≤ db → Reaches ps a b r
+      → Nears ps a b (record { number = 0; word = r .word; climbs = r .climbs + r .climbs + (db - da); tries = r .tries })
+  reached-both db r e h m =
+      let k = small ps t (g .of .prepared) in
+      let c = tree ps t (g .of .prepared) in
+      let o = m .nearest .above-second in
+      record { found = refl; nearest = m .nearest; climbs = omega (arith, e, g .deep, up-depth ps k c (r .climbs) a (r .word) (m .reached), up-depth ps k c (o .climbs) b (r .word) (o .reached)) }
 
   pub narrowed-start : (Ancestor ps a b → ⊥) → Narrowed ps a b da 1 (da + 1) 0
   unfolding up

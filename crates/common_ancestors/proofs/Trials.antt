@@ -1,6 +1,6 @@
 -- What a lookup and a test of ancestry tell of a list from which the table is prepared. Assumes nothing.
 use mathlib.Core.Path.{_≡_, sym, ap, _∙_}
-use mathlib.Core.Logic.{_↔_, inl, inr}
+use mathlib.Core.Logic.{_↔_}
 use mathlib.Core.List.{List}
 use mathlib.Core.Bool.{cond}
 use mathlib.Core.Option.{some}
@@ -23,7 +23,7 @@ use Rattle.climbs.proofs.Questions.{climb-right}
 use Rattle.query.specs.Lookups.{fromLookup}
 use Rattle.query.specs.declared.look.Lookup.the-variants.{Climb}
 use Rattle.query.proofs.Ratings.{firstTwo, outcome-words}
-use Rattle.common_ancestors.specs.Parts.{Settled, Table, Tells}
+use Rattle.common_ancestors.specs.Parts.{Table, Tells}
 
 module _ (ps t : List ℕ) (n : ℕ) (of : Table ps t n) where
   -- ancestry's word is 1 just where the first is at or above the second
@@ -45,8 +45,3 @@ module _ (ps t : List ℕ) (n : ℕ) (of : Table ps t n) where
   pub climb-reaches : (a k x : ℕ) (words : List ℕ) → words ≡ answerWords (answerTo t (opened (length t) (fromLookup Climb a k))) → up ps k a ≡ some x → firstTwo words ≡ accepted x
   unfolding climbing fromLookup answerTo
   climb-reaches a k x words e r = outcome-words _ words e ∙ climb-right ps t (of .prepared) a k ∙ climb-iff ps a k x .1 r
-
--- a settled answer of number 0 names an entry
-pub settled-word : (n : ℕ) (o : Outcome) → Settled n o → o .number ≡ 0 → o .word < n
-settled-word n o (inl (z, h)) e = h
-settled-word n o (inr q) e = absurd (omega (arith, ap (λ x. x .number) q))

@@ -3,22 +3,38 @@ use mathlib.Core.Path.{_≡_}
 use mathlib.Core.Logic.{_⊎_}
 use mathlib.Core.List.{List}
 use mathlib.Core.Bool.{Bool, true, false}
-use Prim.Native.Nat.{ℕ, _<_}
+use mathlib.Core.Option.{some}
+use Prim.Native.Nat.{ℕ, _+_, _-_, _*_, _<_, _≤_}
 use lib.ListN.{length}
-use Rattle.base.specs.Numbers.{Outcome, broken}
-use Rattle.tree.specs.Parents.{depth}
+use Rattle.base.specs.Numbers.{Outcome}
+use Rattle.base.specs.declared.Node.{Node}
+use Rattle.tree.specs.Parents.{up, depth}
 use Rattle.tree.specs.Level.{Ancestor}
 use Rattle.table.specs.Preparing.{Prepared}
+use Rattle.common_ancestors.specs.Common.{Nearest, nearestOf, distanceOf}
+use Rattle.common_ancestors.specs.Promises.{Shares, Counts}
+use Rattle.common_ancestors.specs.declared.Sought.{Sought}
+use Rattle.common_ancestors.specs.declared.Sought.the-variants.{Class, Climbs}
+use Rattle.common_ancestors.specs.declared.search.Ends.{Ends}
 use Rattle.common_ancestors.specs.declared.search.Found.{Found}
 use Rattle.common_ancestors.specs.declared.trial.Trial.{Trial}
 
--- what a search found, as number and word
-abbrev pub found : Found → Outcome
-found r = record { number = r .number; word = r .word }
+-- of either question: what its result is less than, of n entries; which it is of class and climbs; what it means; what is found
+abbrev pub bound : Sought → ℕ → ℕ
+bound Class n = n
+bound Climbs n = 2 * n
 
--- an entry of n, or 9
-abbrev pub Settled : ℕ → Outcome → Type 0
-Settled n o = ((o .number ≡ 0) × (o .word < n)) ⊎ (o ≡ broken)
+abbrev pub chosen : Sought → ℕ → ℕ → ℕ
+chosen Class class climbs = class
+chosen Climbs class climbs = climbs
+
+abbrev pub meaning : Sought → List ℕ → ℕ → ℕ → Outcome
+meaning Class = nearestOf
+meaning Climbs = distanceOf
+
+abbrev pub Answered : Sought → List ℕ → ℕ → ℕ → Outcome → Type 0
+Answered Class = Shares
+Answered Climbs = Counts
 
 -- a table of n entries was prepared from ps
 pub record Table (ps t : List ℕ) (n : ℕ) : Type 0 where
@@ -42,3 +58,24 @@ pub record Tried (ps : List ℕ) (x b : ℕ) (r : Trial) : Type 0 where
   pub found : r .number ≡ 0
   pub entry : r .word ≡ x
   pub tells : Tells ps x b (r .above)
+
+-- u and v of those depths, the less deep first
+abbrev pub Ordered : Node → Node → ℕ → ℕ → Ends → Type 0
+Ordered u v du dv r =
+    ((du ≤ dv) × (r ≡ record { upper = u; lower = v; depth = du; below = dv - du })) ⊎ ((dv < du) × (r ≡ record { upper = v; lower = u; depth = dv; below = du - dv }))
+
+-- an entry of n, and no more climbs than da; or 9
+abbrev pub Settled : ℕ → ℕ → Found → Type 0
+Settled n da r = (r .number ≡ 0) → (r .word < n) × (r .climbs ≤ da)
+
+-- a search reached the nearest common ancestor of a and b by its climbs from a
+pub record Reaches (ps : List ℕ) (a b : ℕ) (r : Found) : Type 0 where
+  pub found : r .number ≡ 0
+  pub reached : up ps (r .climbs) a ≡ some (r .word)
+  pub nearest : Nearest ps a b (r .word)
+
+-- what both questions give
+pub record Nears (ps : List ℕ) (u v : ℕ) (r : Found) : Type 0 where
+  pub found : r .number ≡ 0
+  pub nearest : Nearest ps u v (r .word)
+  pub climbs : r .climbs ≡ depth ps u + depth ps v - 2 * depth ps (r .word)

@@ -18,10 +18,10 @@ use Rattle.common_ancestors.specs.Admission.{admission}
 abbrev pub said : Reply → Outcome
 said r = record { number = r .number; word = r .word }
 
--- the refusal where there is one, else 0 or 9: "for a table that preparing didn't write, anything further is open"
-pub record Enters (t : List ℕ) (u v : ℕ) (o : Outcome) : Type 0 where
+-- the refusal where there is one; else a result within a bound for that many entries, or 9: "for a table that preparing didn't write, anything further is open"
+pub record Enters (most : ℕ → ℕ) (t : List ℕ) (u v : ℕ) (o : Outcome) : Type 0 where
   pub refused : (admission t u v .number ≡ 0 → ⊥) → o ≡ admission t u v
-  pub settled : admission t u v .number ≡ 0 → (o .number ≡ 0) ⊎ (o ≡ broken)
+  pub settled : admission t u v .number ≡ 0 → ((o .number ≡ 0) × (o .word < most (admission t u v .word))) ⊎ (o ≡ broken)
 
 -- the number is one of a list
 abbrev pub Gives : List ℕ → Outcome → Type 0
@@ -52,10 +52,10 @@ abbrev pub withoutCells : Outcome → List ℕ
 withoutCells o = answerWords (record { number = o .number; word = o .word; cells = listed [] })
 
 -- the same promises of an answer in words
-pub record Words (meaning : List ℕ → Outcome) (answered : List ℕ → ℕ → ℕ → Outcome → Type 0) (t : List ℕ) (u v : ℕ) (words : List ℕ) : Type 0 where
+pub record Words (most : ℕ → ℕ) (meaning : List ℕ → Outcome) (answered : List ℕ → ℕ → ℕ → Outcome → Type 0) (t : List ℕ) (u v : ℕ) (words : List ℕ) : Type 0 where
   pub answer : Outcome
   pub written : words ≡ withoutCells answer
-  pub enters : Enters t u v answer
+  pub enters : Enters most t u v answer
   pub numbers : Gives (0 ∷ 7 ∷ 9 ∷ []) answer
   pub right : Right meaning t answer
   pub known : Known answered u v t answer

@@ -3,54 +3,97 @@ mod search;
 mod trial;
 
 ghost use mathlib.Core.Path.{_≡_};
-ghost use mathlib.Core.Logic.{_⊎_};
-ghost use mathlib.Core.List.{List, [], _∷_};
-ghost use Prim.Native.Nat.{ℕ, _+_, _-_, _*_, _<_, _≤_};
-ghost use Rattle.base.specs.Limits.{Sized, mostEntries};
-ghost use Rattle.base.specs.Numbers.{accepted, broken};
+ghost use mathlib.Core.List.{[], _∷_};
+ghost use Prim.Native.Nat.{_*_, _<_};
+ghost use Rattle.base.specs.Limits.{Sized};
 ghost use Rattle.common_ancestors.specs.Common.{nearestOf, distanceOf};
 ghost use Rattle.common_ancestors.specs.Admission.{admission};
-ghost use Rattle.common_ancestors.specs.Promises.{said, Enters, Gives, Right, Known, Shares, Counts};
-ghost use Rattle.common_ancestors.specs.Parts.{Table};
+ghost use Rattle.common_ancestors.specs.Promises.{said, Enters, Gives, Right, Known, Shares, Counts, Words};
+ghost use Rattle.common_ancestors.specs.Parts.{bound, meaning, Answered, chosen};
 use crate::search::nearest;
-use crate::trial::broken;
-use crate::trial::depth_of;
+use answers::ANSWER_WORDS;
+use answers::Answer;
+use answers::Cells;
 use base::Node;
 use base::Reply;
 use base::numbers::ACCEPTED;
+use base::numbers::BROKEN;
 use base::numbers::UNKNOWN;
 use query::entries;
 
+// What is asked of two entries: the class that they share, or the climbs between them.
+pub enum Sought {
+    Class,
+    Climbs,
+}
+
 // The nearest common ancestor of u and v: the deepest class that holds both, which is the first entry on both climbs to the top.
 pub fn nearest_common_ancestor(table: &[u32], u: Node, v: Node) -> Reply
-    ensures enters { λ r. ⌜ Enters (now (table .entry)) (u .0) (v .0) (said r) ⌝ }
+    ensures enters { λ r. ⌜ Enters (λ n. n) (now (table .entry)) (u .0) (v .0) (said r) ⌝ }
     ensures numbers { λ r. ⌜ Gives (0 ∷ 7 ∷ 9 ∷ []) (said r) ⌝ }
     ensures right { λ r. ⌜ Right (λ ps. nearestOf ps (u .0) (v .0)) (now (table .entry)) (said r) ⌝ }
     ensures known { λ r. ⌜ Known Shares (u .0) (v .0) (now (table .entry)) (said r) ⌝ }
+{
+    answer(table, Sought::Class, u, v)
+}
+
+// The distance of u and v: the number of climbs between them through the class that they share.
+pub fn distance(table: &[u32], u: Node, v: Node) -> Reply
+    ensures enters { λ r. ⌜ Enters (λ n. 2 * n) (now (table .entry)) (u .0) (v .0) (said r) ⌝ }
+    ensures numbers { λ r. ⌜ Gives (0 ∷ 7 ∷ 9 ∷ []) (said r) ⌝ }
+    ensures right { λ r. ⌜ Right (λ ps. distanceOf ps (u .0) (v .0)) (now (table .entry)) (said r) ⌝ }
+    ensures known { λ r. ⌜ Known Counts (u .0) (v .0) (now (table .entry)) (said r) ⌝ }
+{
+    answer(table, Sought::Climbs, u, v)
+}
+
+// Either of them, in words of the caller's. Both questions of other languages ask here, so that the compiler sets the search in place once.
+pub fn answer_words(
+    table: &[u32],
+    sought: Sought,
+    u: Node,
+    v: Node,
+    words: &mut [u32; ANSWER_WORDS],
+)
+    ensures { λ _. ⌜ Words (bound sought) (λ ps. meaning sought ps (u .0) (v .0)) (Answered sought) (now (table .entry)) (u .0) (v .0) (now (words .exit)) ⌝ }
+{
+    let reply = answer(table, sought, u, v);
+    let cells = Cells::new();
+    let found = Answer {
+        number: reply.number,
+        word: reply.word,
+        cells,
+    };
+    *words = found.words();
+}
+
+fn answer(table: &[u32], sought: Sought, u: Node, v: Node) -> Reply
+    ensures enters { λ r. ⌜ Enters (bound sought) (now (table .entry)) (u .0) (v .0) (said r) ⌝ }
+    ensures numbers { λ r. ⌜ Gives (0 ∷ 7 ∷ 9 ∷ []) (said r) ⌝ }
+    ensures right { λ r. ⌜ Right (λ ps. meaning sought ps (u .0) (v .0)) (now (table .entry)) (said r) ⌝ }
+    ensures known { λ r. ⌜ Known (Answered sought) (u .0) (v .0) (now (table .entry)) (said r) ⌝ }
 {
     let open = admitted(table, u, v);
     if open.number != ACCEPTED {
         return open;
     }
     let found = nearest(table, open.word, u, v);
+    if found.number != ACCEPTED {
+        return broken();
+    }
     Reply {
-        number: found.number,
-        word: found.word,
+        number: ACCEPTED,
+        word: chosen(sought, found.word, found.climbs),
     }
 }
 
-// The distance of u and v: the number of climbs between them through the class that they share.
-pub fn distance(table: &[u32], u: Node, v: Node) -> Reply
-    ensures enters { λ r. ⌜ Enters (now (table .entry)) (u .0) (v .0) (said r) ⌝ }
-    ensures numbers { λ r. ⌜ Gives (0 ∷ 7 ∷ 9 ∷ []) (said r) ⌝ }
-    ensures right { λ r. ⌜ Right (λ ps. distanceOf ps (u .0) (v .0)) (now (table .entry)) (said r) ⌝ }
-    ensures known { λ r. ⌜ Known Counts (u .0) (v .0) (now (table .entry)) (said r) ⌝ }
+fn chosen(sought: Sought, class: u32, climbs: u32) -> u32
+    ensures { λ r. ⌜ r ≡ chosen sought class climbs ⌝ }
 {
-    let open = admitted(table, u, v);
-    if open.number != ACCEPTED {
-        return open;
+    match sought {
+        Sought::Class => class,
+        Sought::Climbs => climbs,
     }
-    climbs_between(table, open.word, u, v)
 }
 
 // Step 1, then the two entries: the refusal, or 0 with the number of entries.
@@ -77,42 +120,12 @@ fn admitted(table: &[u32], u: Node, v: Node) -> Reply
     open
 }
 
-// The climbs from u and from v to the entry that they share.
-fn climbs_between(table: &[u32], n: u32, u: Node, v: Node) -> Reply
-    requires { ⌜ (Sized (now table) n) × (u .0 < n) × (v .0 < n) ⌝ }
-    ensures settled { λ r. ⌜ (r .number ≡ 0) ⊎ (said r ≡ broken) ⌝ }
-    ensures right { λ r. ⌜ ((ps : List ℕ) → Table ps (now (table .entry)) n → Counts ps (u .0) (v .0) (said r)) ⌝ }
+// 9: the table is broken.
+fn broken() -> Reply
+    ensures { λ r. ⌜ r ≡ record { number = 9; word = 0 } ⌝ }
 {
-    let shared = nearest(table, n, u, v);
-    if shared.number != ACCEPTED {
-        return broken();
-    }
-    let first = depth_of(table, n, u);
-    let second = depth_of(table, n, v);
-    let class = depth_of(table, n, Node(shared.word));
-    climbs_through(n, first, second, class)
-}
-
-// The climbs from two depths to a third that is above both.
-fn climbs_through(n: u32, first: u32, second: u32, class: u32) -> Reply
-    requires { ⌜ n ≤ mostEntries ⌝ }
-    ensures settled { λ r. ⌜ (r .number ≡ 0) ⊎ (said r ≡ broken) ⌝ }
-    ensures right { λ r. ⌜ (class ≤ first → class ≤ second → first < n → second < n → said r ≡ accepted (first + second - 2 * class)) ⌝ }
-{
-    if first < class {
-        return broken();
-    }
-    if second < class {
-        return broken();
-    }
-    if n <= first {
-        return broken();
-    }
-    if n <= second {
-        return broken();
-    }
     Reply {
-        number: ACCEPTED,
-        word: (first - class) + (second - class),
+        number: BROKEN,
+        word: 0,
     }
 }

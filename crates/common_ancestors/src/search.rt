@@ -4,8 +4,7 @@ ghost use mathlib.Core.List.{List};
 ghost use Prim.Native.Nat.{ℕ, _+_, _*_, _<_, _≤_};
 ghost use Rattle.base.specs.Limits.{Sized, mostEntries};
 ghost use Rattle.tree.specs.Level.{Ancestor};
-ghost use Rattle.common_ancestors.specs.Promises.{Shares};
-ghost use Rattle.common_ancestors.specs.Parts.{Table, Given, Settled, found};
+ghost use Rattle.common_ancestors.specs.Parts.{Table, Given, Settled, Reaches, Nears, Ordered};
 use crate::trial::depth_of;
 use crate::trial::is_above;
 use crate::trial::tried;
@@ -14,67 +13,95 @@ use base::limits::MOST_ENTRIES;
 use base::numbers::ACCEPTED;
 use base::numbers::BROKEN;
 
-// What was found, and how many entries were tried: for each a lookup and a test.
+// An entry that is on both climbs, how many climbs lead to it, and how many entries were tried: for each a lookup and a test.
 pub struct Found {
     pub number: u32,
     pub word: u32,
+    pub climbs: u32,
     pub tries: u32,
 }
 
-// The first entry on both climbs. An entry above the other is the answer; the search is from the entry that is less deep.
+// Two entries, of which the first is not the deeper.
+pub struct Ends {
+    pub upper: Node,
+    pub lower: Node,
+    pub depth: u32,
+    pub below: u32,
+}
+
+// The first entry on both climbs, and the climbs to it from both.
 pub(crate) fn nearest(table: &[u32], n: u32, u: Node, v: Node) -> Found
     requires { ⌜ (Sized (now table) n) × (u .0 < n) × (v .0 < n) ⌝ }
     ensures few { λ r. ⌜ r .tries ≤ 23 ⌝ }
-    ensures settled { λ r. ⌜ Settled n (found r) ⌝ }
-    ensures right { λ r. ⌜ ((ps : List ℕ) → Table ps (now (table .entry)) n → Shares ps (u .0) (v .0) (found r)) ⌝ }
+    ensures settled { λ r. ⌜ (r .number ≡ 0 → (r .word < n) × (r .climbs < 2 * n)) ⌝ }
+    ensures right { λ r. ⌜ ((ps : List ℕ) → Table ps (now (table .entry)) n → Nears ps (u .0) (v .0) r) ⌝ }
 {
     let du = depth_of(table, n, u);
     let dv = depth_of(table, n, v);
-    if dv < du {
-        if is_above(table, v, u) {
-            return itself(v);
-        }
-        return search(table, n, v, u, dv);
-    }
-    if is_above(table, u, v) {
-        return itself(u);
-    }
-    search(table, n, u, v, du)
-}
-
-// An entry that is at or above the other.
-fn itself(a: Node) -> Found
-    ensures { λ r. ⌜ r ≡ record { number = 0; word = a .0; tries = 0 } ⌝ }
-{
-    Found {
-        number: ACCEPTED,
-        word: a.0,
-        tries: 0,
-    }
-}
-
-// 9, after so many tries.
-fn broken_after(tries: u32) -> Found
-    ensures { λ r. ⌜ r ≡ record { number = 9; word = 0; tries = tries } ⌝ }
-{
-    Found {
-        number: BROKEN,
-        word: 0,
-        tries,
-    }
-}
-
-// The first entry of a's climb that is on b's, where a is `da` deep and not at or above b. Fewer than `low` climbs from a lead to no entry of b's climb, and `high`
-// climbs lead to `word`, which is one.
-fn search(table: &[u32], n: u32, a: Node, b: Node, da: u32) -> Found
-    requires { ⌜ n ≤ mostEntries ⌝ }
-    ensures few { λ r. ⌜ r .tries ≤ 23 ⌝ }
-    ensures settled { λ r. ⌜ Settled n (found r) ⌝ }
-    ensures right { λ r. ⌜ ((ps : List ℕ) → Given ps (now (table .entry)) n (a .0) (b .0) da → (Ancestor ps (a .0) (b .0) → ⊥) → Shares ps (a .0) (b .0) (found r)) ⌝ }
-{
-    if n <= da {
+    if n <= du {
         return broken_after(0);
     }
+    if n <= dv {
+        return broken_after(0);
+    }
+    let ends = by_depth(u, v, du, dv);
+    let found = first_above(table, n, ends.upper, ends.lower, ends.depth);
+    if found.number != ACCEPTED {
+        return found;
+    }
+    Found {
+        number: ACCEPTED,
+        word: found.word,
+        climbs: found.climbs + found.climbs + ends.below,
+        tries: found.tries,
+    }
+}
+
+// The less deep entry first, with its depth and how much deeper the other is.
+fn by_depth(u: Node, v: Node, du: u32, dv: u32) -> Ends
+    ensures { λ r. ⌜ Ordered u v du dv r ⌝ }
+{
+    if dv < du {
+        return Ends {
+            upper: v,
+            lower: u,
+            depth: dv,
+            below: du - dv,
+        };
+    }
+    Ends {
+        upper: u,
+        lower: v,
+        depth: du,
+        below: dv - du,
+    }
+}
+
+// The first entry of a's climb that is on b's, where a is `da` deep, and the climbs to it from a.
+fn first_above(table: &[u32], n: u32, a: Node, b: Node, da: u32) -> Found
+    requires { ⌜ (n ≤ mostEntries) × (a .0 < n) × (da < n) ⌝ }
+    ensures few { λ r. ⌜ r .tries ≤ 23 ⌝ }
+    ensures settled { λ r. ⌜ Settled n da r ⌝ }
+    ensures right { λ r. ⌜ ((ps : List ℕ) → Given ps (now (table .entry)) n (a .0) (b .0) da → Reaches ps (a .0) (b .0) r) ⌝ }
+{
+    if is_above(table, a, b) {
+        return Found {
+            number: ACCEPTED,
+            word: a.0,
+            climbs: 0,
+            tries: 0,
+        };
+    }
+    search(table, n, a, b, da)
+}
+
+// The same, where a is not at or above b. Fewer than `low` climbs from a lead to no entry of b's climb, and `high` climbs lead to `word`, which is one.
+fn search(table: &[u32], n: u32, a: Node, b: Node, da: u32) -> Found
+    requires { ⌜ (n ≤ mostEntries) × (da < n) ⌝ }
+    ensures few { λ r. ⌜ r .tries ≤ 23 ⌝ }
+    ensures settled { λ r. ⌜ Settled n da r ⌝ }
+    ensures right { λ r. ⌜ ((ps : List ℕ) → Given ps (now (table .entry)) n (a .0) (b .0) da → (Ancestor ps (a .0) (b .0) → ⊥) → Reaches ps (a .0) (b .0) r) ⌝ }
+{
     let mut low: u32 = 1;
     let mut high = da + 1;
     let mut word: u32 = 0;
@@ -101,6 +128,19 @@ fn search(table: &[u32], n: u32, a: Node, b: Node, da: u32) -> Found
     Found {
         number: ACCEPTED,
         word,
+        climbs: high,
+        tries,
+    }
+}
+
+// 9, after so many tries.
+fn broken_after(tries: u32) -> Found
+    ensures { λ r. ⌜ r ≡ record { number = 9; word = 0; climbs = 0; tries = tries } ⌝ }
+{
+    Found {
+        number: BROKEN,
+        word: 0,
+        climbs: 0,
         tries,
     }
 }

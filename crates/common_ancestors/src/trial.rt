@@ -1,17 +1,15 @@
 // What the search asks of the table, each by a question's promise: an entry's depth, the entry so many climbs above another, and whether it is at or above a third.
 ghost use mathlib.Core.Path.{_≡_};
 ghost use mathlib.Core.List.{List};
+ghost use mathlib.Core.Bool.{false};
 ghost use mathlib.Core.Option.{some};
 ghost use Prim.Native.Nat.{ℕ, _<_};
 ghost use Rattle.base.specs.Limits.{Sized, depthCell};
-ghost use Rattle.base.specs.Numbers.{accepted};
 ghost use Rattle.tree.specs.Parents.{up};
 ghost use Rattle.answers.specs.Reading.{wordAt};
-ghost use Rattle.common_ancestors.specs.Promises.{said};
-ghost use Rattle.common_ancestors.specs.Parts.{Table, Settled, Tells, Tried};
+ghost use Rattle.common_ancestors.specs.Parts.{Table, Tells, Tried};
 use answers::ANSWER_WORDS;
 use base::Node;
-use base::Reply;
 use base::limits::HEADER_CELLS;
 use base::numbers::ACCEPTED;
 use base::numbers::BROKEN;
@@ -35,16 +33,6 @@ pub(crate) fn depth_of(table: &[u32], n: u32, v: Node) -> u32
     table[at]
 }
 
-// 9: the table is broken.
-pub(crate) fn broken() -> Reply
-    ensures { λ r. ⌜ r ≡ record { number = 9; word = 0 } ⌝ }
-{
-    Reply {
-        number: BROKEN,
-        word: 0,
-    }
-}
-
 // Whether w is at or above b.
 pub(crate) fn is_above(table: &[u32], w: Node, b: Node) -> bool
     ensures { λ r. ⌜ ((ps : List ℕ) (n : ℕ) → Table ps (now (table .entry)) n → w .0 < n → b .0 < n → Tells ps (w .0) (b .0) r) ⌝ }
@@ -56,42 +44,33 @@ pub(crate) fn is_above(table: &[u32], w: Node, b: Node) -> bool
     relation.word == 1
 }
 
-// The entry k climbs above a, or 9.
-fn climbed(table: &[u32], n: u32, a: Node, k: u32) -> Reply
-    ensures settled { λ r. ⌜ Settled n (said r) ⌝ }
-    ensures right { λ r. ⌜ ((ps : List ℕ) → Table ps (now (table .entry)) n → (x : ℕ) → up ps k (a .0) ≡ some x → said r ≡ accepted x) ⌝ }
-{
-    let mut words: [u32; ANSWER_WORDS] = [0; ANSWER_WORDS];
-    look_words(table, Lookup::Climb, a, k, &mut words);
-    if words[0] != ACCEPTED {
-        return broken();
-    }
-    if n <= words[1] {
-        return broken();
-    }
-    Reply {
-        number: ACCEPTED,
-        word: words[1],
-    }
-}
-
-// The entry k climbs above a, and whether it is at or above b.
+// The entry k climbs above a, and whether it is at or above b; or 9.
 pub(crate) fn tried(table: &[u32], n: u32, a: Node, b: Node, k: u32) -> Trial
     ensures entry { λ r. ⌜ (r .number ≡ 0 → r .word < n) ⌝ }
     ensures right { λ r. ⌜ ((ps : List ℕ) → Table ps (now (table .entry)) n → b .0 < n → (x : ℕ) → up ps k (a .0) ≡ some x → Tried ps x (b .0) r) ⌝ }
 {
-    let reached = climbed(table, n, a, k);
-    let word = reached.word;
-    if reached.number != ACCEPTED {
-        return Trial {
-            number: BROKEN,
-            word: 0,
-            above: false,
-        };
+    let mut words: [u32; ANSWER_WORDS] = [0; ANSWER_WORDS];
+    look_words(table, Lookup::Climb, a, k, &mut words);
+    let word = words[1];
+    if words[0] != ACCEPTED {
+        return broken();
+    }
+    if n <= word {
+        return broken();
     }
     Trial {
         number: ACCEPTED,
         word,
         above: is_above(table, Node(word), b),
+    }
+}
+
+fn broken() -> Trial
+    ensures { λ r. ⌜ r ≡ record { number = 9; word = 0; above = false } ⌝ }
+{
+    Trial {
+        number: BROKEN,
+        word: 0,
+        above: false,
     }
 }

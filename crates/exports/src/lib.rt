@@ -1,13 +1,14 @@
 // The C interface: measures, preparing, the five questions, the nearest common ancestor and the distance, the premium by a list of rates and by a sheet with bands. A slice is a pointer and a length. An answer is
 // written to an array of the caller's: preparing's to two words, a check's to three, a question's to eighteen, with the money beside it.
 ghost use mathlib.Core.Path.{_≡_};
+ghost use Prim.Native.Nat.{_*_};
 ghost use lib.ListN.{length};
 ghost use Rattle.base.specs.Limits.{tableWords, spaceWords};
 ghost use Rattle.table.specs.Preparing.{preparing, tableAfter, spaceAfter};
 ghost use Rattle.answers.specs.Answers.{answerTo, answerWords};
 ghost use Rattle.answers.specs.Steps.{level, climbing, rating, ancestry, branch};
 ghost use Rattle.common_ancestors.specs.Common.{nearestOf, distanceOf};
-ghost use Rattle.common_ancestors.specs.Promises.{said, withoutCells, Shares, Counts, Words};
+ghost use Rattle.common_ancestors.specs.Promises.{Shares, Counts, Words};
 ghost use Rattle.premiums.specs.Quotes.{quoteTo};
 ghost use Rattle.sheets.specs.Verdicts.{checkTo, bandsOn};
 ghost use Rattle.sheets.specs.Checked.{Checked};
@@ -15,15 +16,12 @@ ghost use Rattle.pricing.specs.Quotes.{priceTo};
 ghost use Rattle.pricing.specs.Promises.{QuotationWords};
 ghost use Rattle.exports.specs.ReplyWords.{replyWords, verdictWords};
 use answers::ANSWER_WORDS;
-use answers::Answer;
-use answers::Cells;
 use base::Node;
-use base::Reply;
 use base::Sum;
 use base::limits::space_words;
 use base::limits::table_words;
-use common_ancestors::distance;
-use common_ancestors::nearest_common_ancestor;
+use common_ancestors::Sought;
+use common_ancestors::answer_words;
 use query::Lookup;
 use sheets::SHEET_WORDS;
 
@@ -114,10 +112,9 @@ pub extern "C" fn tantsheko_nearest_common_ancestor(
     v: u32,
     answer: &mut [u32; ANSWER_WORDS],
 )
-    ensures { λ _. ⌜ Words (λ ps. nearestOf ps u v) Shares (now (table .entry)) u v (now (answer .exit)) ⌝ }
+    ensures { λ _. ⌜ Words (λ n. n) (λ ps. nearestOf ps u v) Shares (now (table .entry)) u v (now (answer .exit)) ⌝ }
 {
-    let found = nearest_common_ancestor(table, Node(u), Node(v));
-    *answer = without_cells(found);
+    answer_words(table, Sought::Class, Node(u), Node(v), answer);
 }
 
 // The distance of u and v: the climbs between them through the class that they share.
@@ -128,22 +125,9 @@ pub extern "C" fn tantsheko_distance(
     v: u32,
     answer: &mut [u32; ANSWER_WORDS],
 )
-    ensures { λ _. ⌜ Words (λ ps. distanceOf ps u v) Counts (now (table .entry)) u v (now (answer .exit)) ⌝ }
+    ensures { λ _. ⌜ Words (λ n. 2 * n) (λ ps. distanceOf ps u v) Counts (now (table .entry)) u v (now (answer .exit)) ⌝ }
 {
-    let found = distance(table, Node(u), Node(v));
-    *answer = without_cells(found);
-}
-
-// The words of an answer that lists no cells.
-fn without_cells(reply: Reply) -> [u32; ANSWER_WORDS]
-    ensures { λ r. ⌜ r ≡ withoutCells (said reply) ⌝ }
-{
-    let answer = Answer {
-        number: reply.number,
-        word: reply.word,
-        cells: Cells::new(),
-    };
-    answer.words()
+    answer_words(table, Sought::Climbs, Node(u), Node(v), answer);
 }
 
 // The premium of a sum insured for v at rating level d.

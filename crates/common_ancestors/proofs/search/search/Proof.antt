@@ -1,15 +1,14 @@
 -- `search::search` meets its contract. The invariant: fewer than `low` climbs are too few, `high` lead to `word`, which is at or above b, and k is at most half way.
 -- The measure is how many may yet be tried. Assumes nothing.
-use mathlib.Core.Logic.{inl, inr}
-use mathlib.Core.Path.{refl, ap}
+use mathlib.Core.Path.{refl}
 use mathlib.Core.List.{List}
 use Prim.Native.Nat.{ℕ, _+_, _-_, _*_, _≤_, _<_}
 use native.Mathlib.Omega.{arith}
 use borrow.Author.Needs.{needs}
 use Rattle.tree.specs.Level.{Ancestor}
-use Rattle.common_ancestors.specs.Parts.{found, Given}
+use Rattle.common_ancestors.specs.Parts.{Given}
 use Rattle.common_ancestors.proofs.Halving.{Few, few-start, few-more, few-next}
-use Rattle.common_ancestors.proofs.Narrowing.{Narrowed, given-shallow, narrowed-start, tried-known, narrowed-hit, narrowed-miss, narrowed-in, narrowed-end}
+use Rattle.common_ancestors.proofs.Narrowing.{Narrowed, narrowed-start, tried-known, narrowed-hit, narrowed-miss, narrowed-in, narrowed-end}
 use Rattle.common_ancestors.proofs.search.search.Statement.{statement}
 use Rattle.common_ancestors.proofs.search.search.Tie as tie
 use Rattle.common_ancestors.proofs.search.search.Reads as reads
@@ -33,12 +32,6 @@ Inv-loop table n a b da low₀ high₀ word₀ k₀ tries₀ low high word k tri
 abbrev μ-loop : tie.MeasureT-loop
 μ-loop table n a b da low₀ high₀ word₀ k₀ tries₀ low high word k tries = 23 - tries
 
--- a is less deep than the table has entries
-returns : tie.Need-returns Inv-loop μ-loop
-returns c =
-    let r = c .broken-after .ensures in
-    (rw r (omega arith), (inr (ap found r), λ ps g n. absurd (omega (arith, c .before .if1 .taken, given-shallow ps _ _ _ _ _ g))))
-
 add-high : tie.Need-add-high Inv-loop μ-loop
 add-high c = search needs
 
@@ -56,15 +49,15 @@ add-tries c =
     let at = c .before .before .loop in
     omega (arith, few-more (at .tries) (at .high - at .low) (at .inv .0 .few) (omega arith))
 
-returns-2 : tie.Need-returns-2 Inv-loop μ-loop
-returns-2 c =
-    let r = c .broken-after2 .ensures in
+returns : tie.Need-returns Inv-loop μ-loop
+returns c =
+    let r = c .broken-after .ensures in
     let try = c .before .before .before in
     let at = try .before .before .loop in (
       rw r (omega (arith, few-more (at .tries) (at .high - at .low) (at .inv .0 .few) (omega arith))),
       (
-        inr (ap found r),
-        λ ps g n. absurd (c .before .if2 .taken (tried-known ps _ _ _ _ _ g (at .low) (at .high) (at .word) (at .k) (at .inv .1 ps g n) (omega arith) (try .tried .result) (λ x. try .tried .ensures .1 ps (g .of) (g .second) x))),
+        rw r (λ z. absurd (omega arith)),
+        λ ps g n. absurd (c .before .if1 .taken (tried-known ps _ _ _ _ _ g (at .low) (at .high) (at .word) (at .k) (at .inv .1 ps g n) (omega arith) (try .tried .result) (λ x. try .tried .ensures .1 ps (g .of) (g .second) x))),
       ),
     )
 
@@ -86,10 +79,10 @@ loop-again c =
         most = omega arith;
         middle = λ h. omega arith;
         few = few-next (at .tries) (at .high - at .low) (at .inv .0 .few) (omega arith) (at .k - at .low) (omega arith) (λ h. omega arith);
-        entry = λ h. try .tried .ensures .0 (c .before .before .if2 .left);
+        entry = λ h. try .tried .ensures .0 (c .before .before .if1 .left);
       },
       λ ps g n.
-          narrowed-hit ps _ _ _ _ _ g (at .low) (at .high) (at .word) (at .k) (at .inv .1 ps g n) (omega arith) (try .tried .result) (λ x. try .tried .ensures .1 ps (g .of) (g .second) x) (c .before .if3 .taken),
+          narrowed-hit ps _ _ _ _ _ g (at .low) (at .high) (at .word) (at .k) (at .inv .1 ps g n) (omega arith) (try .tried .result) (λ x. try .tried .ensures .1 ps (g .of) (g .second) x) (c .before .if2 .taken),
     )
 
 add-low : tie.Need-add-low Inv-loop μ-loop
@@ -116,28 +109,28 @@ loop-again-2 c =
         entry = at .inv .0 .entry;
       },
       λ ps g n.
-          narrowed-miss ps _ _ _ _ _ g (at .low) (at .high) (at .word) (at .k) (at .inv .1 ps g n) (omega arith) (try .tried .result) (λ x. try .tried .ensures .1 ps (g .of) (g .second) x) (c .before .if3 .left),
+          narrowed-miss ps _ _ _ _ _ g (at .low) (at .high) (at .word) (at .k) (at .inv .1 ps g n) (omega arith) (try .tried .result) (λ x. try .tried .ensures .1 ps (g .of) (g .second) x) (c .before .if2 .left),
     )
 
 -- the top is on both climbs
-returns-3 : tie.Need-returns-3 Inv-loop μ-loop
-returns-3 c =
-    let r = c .broken-after3 .ensures in
+returns-2 : tie.Need-returns-2 Inv-loop μ-loop
+returns-2 c =
+    let r = c .broken-after2 .ensures in
     let at = c .before .before .before .loop in (
       rw r (at .inv .0 .few .most),
       (
-        inr (ap found r),
-        λ ps g n. absurd (narrowed-in ps _ _ _ _ _ g (at .low) (at .high) (at .word) (at .inv .1 ps g n) (omega arith) (omega arith) (c .before .if4 .taken)),
+        rw r (λ z. absurd (omega arith)),
+        λ ps g n. absurd (narrowed-in ps _ _ _ _ _ g (at .low) (at .high) (at .word) (at .inv .1 ps g n) (omega arith) (omega arith) (c .before .if3 .taken)),
       ),
     )
 
-returns-4 : tie.Need-returns-4 Inv-loop μ-loop
-returns-4 c =
+returns-3 : tie.Need-returns-3 Inv-loop μ-loop
+returns-3 c =
     let at = c .before .before .loop in (
       at .inv .0 .few .most,
       (
-        inl (refl, at .inv .0 .entry (omega arith)),
-        λ ps g n. record { found = refl; nearest = narrowed-end ps _ _ _ _ _ g (at .low) (at .high) (at .word) (at .inv .1 ps g n) (omega arith) (omega arith) },
+        λ z. (at .inv .0 .entry (omega arith), omega arith),
+        λ ps g n. record { found = refl; reached = at .inv .1 ps g n .hit (omega arith) .0; nearest = narrowed-end ps _ _ _ _ _ g (at .low) (at .high) (at .word) (at .inv .1 ps g n) (omega arith) (omega arith) },
       ),
     )
 
@@ -147,14 +140,12 @@ search-spec =
     (tie.spec
     Inv-loop
     μ-loop
-    (λ c κs. search needs)
-    returns
     add-high
     loop-holds
     tried-requires
     add-tries
     (λ c κs. search needs)
-    returns-2
+    returns
     middle-requires
     loop-less
     loop-again
@@ -163,5 +154,5 @@ search-spec =
     loop-less-2
     loop-again-2
     (λ c κs. search needs)
-    returns-3
-    returns-4)
+    returns-2
+    returns-3)
