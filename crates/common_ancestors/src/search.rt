@@ -7,6 +7,7 @@ ghost use Rattle.tree.specs.Level.{Ancestor};
 ghost use Rattle.common_ancestors.specs.Parts.{Table, Given, Settled, Reaches, Nears, Ordered};
 use crate::trial::depth_of;
 use crate::trial::is_above;
+use crate::trial::top_of;
 use crate::trial::tried;
 use base::Node;
 use base::limits::MOST_ENTRIES;
@@ -79,7 +80,7 @@ fn by_depth(u: Node, v: Node, du: u32, dv: u32) -> Ends
 
 // The first entry of a's climb that is on b's, where a is `da` deep, and the climbs to it from a.
 fn first_above(table: &[u32], n: u32, a: Node, b: Node, da: u32) -> Found
-    requires { ⌜ (n ≤ mostEntries) × (a .0 < n) × (da < n) ⌝ }
+    requires { ⌜ (Sized (now table) n) × (a .0 < n) × (da < n) ⌝ }
     ensures few { λ r. ⌜ r .tries ≤ 23 ⌝ }
     ensures settled { λ r. ⌜ Settled n da r ⌝ }
     ensures right { λ r. ⌜ ((ps : List ℕ) → Given ps (now (table .entry)) n (a .0) (b .0) da → Reaches ps (a .0) (b .0) r) ⌝ }
@@ -95,16 +96,22 @@ fn first_above(table: &[u32], n: u32, a: Node, b: Node, da: u32) -> Found
     search(table, n, a, b, da)
 }
 
-// The same, where a is not at or above b. Fewer than `low` climbs from a lead to no entry of b's climb, and `high` climbs lead to `word`, which is one.
+// The same, where a is not at or above b. Fewer than `low` climbs from a lead to no entry of b's climb, and `high` climbs lead to `word`, which is one: at first the top.
 fn search(table: &[u32], n: u32, a: Node, b: Node, da: u32) -> Found
-    requires { ⌜ (n ≤ mostEntries) × (da < n) ⌝ }
+    requires { ⌜ (Sized (now table) n) × (da < n) ⌝ }
     ensures few { λ r. ⌜ r .tries ≤ 23 ⌝ }
     ensures settled { λ r. ⌜ Settled n da r ⌝ }
     ensures right { λ r. ⌜ ((ps : List ℕ) → Given ps (now (table .entry)) n (a .0) (b .0) da → (Ancestor ps (a .0) (b .0) → ⊥) → Reaches ps (a .0) (b .0) r) ⌝ }
 {
+    let mut word = top_of(table, n);
+    if n <= word {
+        return broken_after(0);
+    }
+    if da == 0 {
+        return broken_after(0);
+    }
     let mut low: u32 = 1;
-    let mut high = da + 1;
-    let mut word: u32 = 0;
+    let mut high = da;
     let mut k: u32 = 1;
     let mut tries: u32 = 0;
     while low < high {
@@ -121,9 +128,6 @@ fn search(table: &[u32], n: u32, a: Node, b: Node, da: u32) -> Found
             low = k + 1;
             k = next(low, high, tries);
         }
-    }
-    if da < high {
-        return broken_after(tries);
     }
     Found {
         number: ACCEPTED,

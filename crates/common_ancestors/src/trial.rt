@@ -4,13 +4,14 @@ ghost use mathlib.Core.List.{List};
 ghost use mathlib.Core.Bool.{false};
 ghost use mathlib.Core.Option.{some};
 ghost use Prim.Native.Nat.{ℕ, _<_};
-ghost use Rattle.base.specs.Limits.{Sized, depthCell};
+ghost use Rattle.base.specs.Limits.{Sized, depthCell, orderStart};
 ghost use Rattle.tree.specs.Parents.{up};
 ghost use Rattle.answers.specs.Reading.{wordAt};
 ghost use Rattle.common_ancestors.specs.Parts.{Table, Tells, Tried};
 use answers::ANSWER_WORDS;
 use base::Node;
 use base::limits::HEADER_CELLS;
+use base::limits::ORDER;
 use base::numbers::ACCEPTED;
 use base::numbers::BROKEN;
 use query::Lookup;
@@ -30,6 +31,15 @@ pub(crate) fn depth_of(table: &[u32], n: u32, v: Node) -> u32
     ensures { λ r. ⌜ r ≡ wordAt (now (table .entry)) (depthCell n (v .0)) ⌝ }
 {
     let at = HEADER_CELLS as usize + v.0 as usize;
+    table[at]
+}
+
+// The first entry of ORDER: the top, where the table is prepared.
+pub(crate) fn top_of(table: &[u32], n: u32) -> u32
+    requires { ⌜ (Sized (now table) n) × (0 < n) ⌝ }
+    ensures { λ r. ⌜ r ≡ wordAt (now (table .entry)) (orderStart n) ⌝ }
+{
+    let at = HEADER_CELLS as usize + ORDER as usize * n as usize;
     table[at]
 }
 

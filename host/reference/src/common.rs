@@ -1,7 +1,7 @@
 //! The nearest common ancestor of two entries, and the climbs between them, by the search that the proved code makes. No
 //! cell is noted, and step 1 is taken once.
 
-use crate::questions::{ancestor_at, known, open, Answer, Refusal, BROKEN};
+use crate::questions::{ancestor_at, known, open, Answer, Refusal};
 use crate::Sections;
 
 /// How far past the tries before it the next one goes, at the most: 1, 5 and 21 climbs, then half way.
@@ -14,19 +14,26 @@ fn stride(tries: u32) -> u32 {
     }
 }
 
-/// The first entry of a's climb that is at or above b, where a has that depth.
+/// The first entry of a's climb that is at or above b, where a has that depth, and the climbs to it.
 #[inline(always)]
-fn first_above(mut t: &[u32], s: Sections, a: u32, b: u32, depth: u32) -> Result<u32, Refusal> {
+fn first_above(
+    mut t: &[u32],
+    s: Sections,
+    a: u32,
+    b: u32,
+    depth: u32,
+) -> Result<(u32, u32), Refusal> {
     let place = t[s.pre() + b as usize];
     let above = |t: &[u32], w: u32| {
         let start = t[s.pre() + w as usize];
         start <= place && place - start < t[s.size() + w as usize]
     };
     if above(t, a) {
-        return Ok(a);
+        return Ok((a, 0));
     }
-    let (mut low, mut high) = (1, depth + 1);
-    let mut found = Err(BROKEN);
+    // The top is on both climbs.
+    let mut found = known(t[s.order()], s)?;
+    let (mut low, mut high) = (1, depth);
     let mut tries = 0;
     while low < high {
         let k = low + stride(tries).min((high - low) / 2);
@@ -34,15 +41,15 @@ fn first_above(mut t: &[u32], s: Sections, a: u32, b: u32, depth: u32) -> Result
         let w = ancestor_at(&mut t, s, a, depth, depth - k)?;
         if above(t, w) {
             high = k;
-            found = Ok(w);
+            found = w;
         } else {
             low = k + 1;
         }
     }
-    found
+    Ok((found, high))
 }
 
-/// What two entries share, and the climbs through it.
+/// What two entries share, and the climbs to it from both.
 #[inline(always)]
 fn shared(mut t: &[u32], u: u32, v: u32) -> Result<(u32, u32), Refusal> {
     let len = t.len();
@@ -54,13 +61,12 @@ fn shared(mut t: &[u32], u: u32, v: u32) -> Result<(u32, u32), Refusal> {
     }
     let du = known(t[s.depth() + u as usize], s)?;
     let dv = known(t[s.depth() + v as usize], s)?;
-    let w = if du <= dv {
+    let (w, climbs) = if du <= dv {
         first_above(t, s, u, v, du)?
     } else {
         first_above(t, s, v, u, dv)?
     };
-    let dw = known(t[s.depth() + w as usize], s)?;
-    Ok((w, (du + dv).checked_sub(2 * dw).ok_or(BROKEN)?))
+    Ok((w, 2 * climbs + du.abs_diff(dv)))
 }
 
 fn answer(result: Result<u32, Refusal>) -> Answer {

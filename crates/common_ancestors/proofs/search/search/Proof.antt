@@ -8,7 +8,7 @@ use borrow.Author.Needs.{needs}
 use Rattle.tree.specs.Level.{Ancestor}
 use Rattle.common_ancestors.specs.Parts.{Given}
 use Rattle.common_ancestors.proofs.Halving.{Few, few-start, few-more, few-next}
-use Rattle.common_ancestors.proofs.Narrowing.{Narrowed, narrowed-start, tried-known, narrowed-hit, narrowed-miss, narrowed-in, narrowed-end}
+use Rattle.common_ancestors.proofs.Narrowing.{Narrowed, top-entry, top-above, narrowed-start, tried-known, narrowed-hit, narrowed-miss, narrowed-end}
 use Rattle.common_ancestors.proofs.search.search.Statement.{statement}
 use Rattle.common_ancestors.proofs.search.search.Tie as tie
 use Rattle.common_ancestors.proofs.search.search.Reads as reads
@@ -18,28 +18,38 @@ use Rattle.common_ancestors.proofs.search.search.Lts as lts
 pub record Stands (n da low high word k tries : ℕ) : Type 0 where
   pub over : low ≤ k
   pub half : 2 * k ≤ low + high
-  pub most : high ≤ da + 1
+  pub most : high ≤ da
   pub middle : 3 ≤ tries → low + high ≤ 2 * k + 1
   pub few : Few tries (high - low)
-  pub entry : high ≤ da → word < n
+  pub entry : word < n
 
 abbrev Narrows : List ℕ → ℕ → ℕ → ℕ → ℕ → ℕ → ℕ → ℕ → Type 0
-Narrows t n a b da low high word = (ps : List ℕ) → Given ps t n a b da → (Ancestor ps a b → ⊥) → Narrowed ps a b da low high word
+Narrows t n a b da low high word = (ps : List ℕ) → Given ps t n a b da → (Ancestor ps a b → ⊥) → Narrowed ps a b low high word
 
 abbrev Inv-loop : tie.InvT-loop
-Inv-loop table n a b da low₀ high₀ word₀ k₀ tries₀ low high word k tries = Stands n da low high word k tries × Narrows table n (a .0) (b .0) da low high word
+Inv-loop table n a b da word₀ low₀ high₀ k₀ tries₀ word low high k tries = Stands n da low high word k tries × Narrows table n (a .0) (b .0) da low high word
 
 abbrev μ-loop : tie.MeasureT-loop
-μ-loop table n a b da low₀ high₀ word₀ k₀ tries₀ low high word k tries = 23 - tries
+μ-loop table n a b da word₀ low₀ high₀ k₀ tries₀ word low high k tries = 23 - tries
 
-add-high : tie.Need-add-high Inv-loop μ-loop
-add-high c = search needs
+-- the top is an entry, and not below b
+returns : tie.Need-returns Inv-loop μ-loop
+returns c =
+    let r = c .broken-after .ensures in
+    let top = c .before .before .top-of in
+    (rw r (omega arith), (rw r (λ z. absurd (omega arith)), λ ps g n. absurd (omega (arith, c .before .if1 .taken, top-entry ps _ _ _ _ _ g _ (top .ensures)))))
+
+returns-2 : tie.Need-returns-2 Inv-loop μ-loop
+returns-2 c =
+    let r = c .broken-after2 .ensures in
+    (rw r (omega arith), (rw r (λ z. absurd (omega arith)), λ ps g n. absurd (n (top-above ps _ _ _ _ _ g (c .before .if2 .taken)))))
 
 loop-holds : tie.Need-loop-holds Inv-loop μ-loop
-loop-holds c = (
-  record { over = omega arith; half = omega arith; most = omega arith; middle = λ h. absurd (omega arith); few = few-start _ (omega arith); entry = λ h. absurd (omega arith) },
-  λ ps g n. narrowed-start ps _ _ _ _ _ g n,
-)
+loop-holds c =
+    let top = c .before .before .top-of in (
+      record { over = omega arith; half = omega arith; most = omega arith; middle = λ h. absurd (omega arith); few = few-start _ (omega arith); entry = c .before .if1 .left },
+      λ ps g n. narrowed-start ps _ _ _ _ _ g _ (top .ensures) n,
+    )
 
 tried-requires : tie.Need-tried-requires Inv-loop μ-loop
 tried-requires c κs = search needs
@@ -49,15 +59,15 @@ add-tries c =
     let at = c .before .before .loop in
     omega (arith, few-more (at .tries) (at .high - at .low) (at .inv .0 .few) (omega arith))
 
-returns : tie.Need-returns Inv-loop μ-loop
-returns c =
-    let r = c .broken-after .ensures in
+returns-3 : tie.Need-returns-3 Inv-loop μ-loop
+returns-3 c =
+    let r = c .broken-after3 .ensures in
     let try = c .before .before .before in
     let at = try .before .before .loop in (
       rw r (omega (arith, few-more (at .tries) (at .high - at .low) (at .inv .0 .few) (omega arith))),
       (
         rw r (λ z. absurd (omega arith)),
-        λ ps g n. absurd (c .before .if1 .taken (tried-known ps _ _ _ _ _ g (at .low) (at .high) (at .word) (at .k) (at .inv .1 ps g n) (omega arith) (try .tried .result) (λ x. try .tried .ensures .1 ps (g .of) (g .second) x))),
+        λ ps g n. absurd (c .before .if3 .taken (tried-known ps _ _ _ _ _ g (at .low) (at .high) (at .word) (at .k) (at .inv .1 ps g n) (omega arith) (try .tried .result) (λ x. try .tried .ensures .1 ps (g .of) (g .second) x))),
       ),
     )
 
@@ -79,10 +89,10 @@ loop-again c =
         most = omega arith;
         middle = λ h. omega arith;
         few = few-next (at .tries) (at .high - at .low) (at .inv .0 .few) (omega arith) (at .k - at .low) (omega arith) (λ h. omega arith);
-        entry = λ h. try .tried .ensures .0 (c .before .before .if1 .left);
+        entry = try .tried .ensures .0 (c .before .before .if3 .left);
       },
       λ ps g n.
-          narrowed-hit ps _ _ _ _ _ g (at .low) (at .high) (at .word) (at .k) (at .inv .1 ps g n) (omega arith) (try .tried .result) (λ x. try .tried .ensures .1 ps (g .of) (g .second) x) (c .before .if2 .taken),
+          narrowed-hit ps _ _ _ _ _ g (at .low) (at .high) (at .word) (at .k) (at .inv .1 ps g n) (omega arith) (try .tried .result) (λ x. try .tried .ensures .1 ps (g .of) (g .second) x) (c .before .if4 .taken),
     )
 
 add-low : tie.Need-add-low Inv-loop μ-loop
@@ -109,28 +119,16 @@ loop-again-2 c =
         entry = at .inv .0 .entry;
       },
       λ ps g n.
-          narrowed-miss ps _ _ _ _ _ g (at .low) (at .high) (at .word) (at .k) (at .inv .1 ps g n) (omega arith) (try .tried .result) (λ x. try .tried .ensures .1 ps (g .of) (g .second) x) (c .before .if2 .left),
+          narrowed-miss ps _ _ _ _ _ g (at .low) (at .high) (at .word) (at .k) (at .inv .1 ps g n) (omega arith) (try .tried .result) (λ x. try .tried .ensures .1 ps (g .of) (g .second) x) (c .before .if4 .left),
     )
 
--- the top is on both climbs
-returns-2 : tie.Need-returns-2 Inv-loop μ-loop
-returns-2 c =
-    let r = c .broken-after2 .ensures in
-    let at = c .before .before .before .loop in (
-      rw r (at .inv .0 .few .most),
-      (
-        rw r (λ z. absurd (omega arith)),
-        λ ps g n. absurd (narrowed-in ps _ _ _ _ _ g (at .low) (at .high) (at .word) (at .inv .1 ps g n) (omega arith) (omega arith) (c .before .if3 .taken)),
-      ),
-    )
-
-returns-3 : tie.Need-returns-3 Inv-loop μ-loop
-returns-3 c =
-    let at = c .before .before .loop in (
+returns-4 : tie.Need-returns-4 Inv-loop μ-loop
+returns-4 c =
+    let at = c .before .loop in (
       at .inv .0 .few .most,
       (
-        λ z. (at .inv .0 .entry (omega arith), omega arith),
-        λ ps g n. record { found = refl; reached = at .inv .1 ps g n .hit (omega arith) .0; nearest = narrowed-end ps _ _ _ _ _ g (at .low) (at .high) (at .word) (at .inv .1 ps g n) (omega arith) (omega arith) },
+        λ z. (at .inv .0 .entry, omega arith),
+        λ ps g n. let s = at .inv .1 ps g n in record { found = refl; reached = s .hit .0; nearest = narrowed-end ps _ _ _ _ _ g (at .low) (at .high) (at .word) s (omega arith) },
       ),
     )
 
@@ -140,12 +138,16 @@ search-spec =
     (tie.spec
     Inv-loop
     μ-loop
-    add-high
+    (λ c κs. search needs)
+    (λ c κs. search needs)
+    returns
+    (λ c κs. search needs)
+    returns-2
     loop-holds
     tried-requires
     add-tries
     (λ c κs. search needs)
-    returns
+    returns-3
     middle-requires
     loop-less
     loop-again
@@ -153,6 +155,4 @@ search-spec =
     next-requires
     loop-less-2
     loop-again-2
-    (λ c κs. search needs)
-    returns-2
-    returns-3)
+    returns-4)
