@@ -10,6 +10,7 @@ mod walking;
 pub use relation::ancestry;
 pub use relation::branch;
 pub use steps::climb;
+pub use steps::entries;
 pub use steps::level;
 pub use steps::rating;
 pub use strings::shape_strings;

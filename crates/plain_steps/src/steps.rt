@@ -22,7 +22,7 @@ pub(crate) fn opened(table: &[u32], walk: Walk) -> Walk
 }
 
 // Step 1: the number of entries, 0 where the table is broken.
-pub(crate) fn entries(table: &[u32]) -> usize
+pub fn entries(table: &[u32]) -> usize
     ensures { λ r. ⌜ r ≤ 1048576 ⌝ }
 {
     if table.len() < 4 {

@@ -5,6 +5,7 @@ use crate::asking::CLIMB;
 use crate::asking::LEVEL;
 use crate::asking::RATING;
 use crate::asking::compare;
+use crate::common::common_any;
 use samples::climbing::above;
 use samples::climbing::climbs;
 use samples::seeds::next;
@@ -61,6 +62,7 @@ fn about(
         .plus(compare(table, strings, ANCESTRY, u, entry))
         .plus(compare(table, strings, BRANCH, u, entry))
         .plus(compare(table, strings, BRANCH, entry, other))
+        .plus(common_any(table, v, pick(seed, n)))
 }
 
 // Questions about every entry that there was, and about n.

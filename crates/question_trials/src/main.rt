@@ -1,6 +1,7 @@
 // Tries the five questions on the prepared tables of many trees: each answer against a plain climb of the parent list, and whole against a walk of the
-// printed steps. Then tries them on damaged tables, against that walk.
+// printed steps. Then tries them on damaged tables, against that walk. The two questions about what entries share are tried with them, against two plain climbs.
 mod asking;
+mod common;
 mod damaged;
 mod levels;
 mod pairs;

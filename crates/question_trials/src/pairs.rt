@@ -1,7 +1,9 @@
-// Ancestry and branch of pairs of entries.
+// Ancestry and branch of pairs of entries, what they share, and the climbs between them.
 use crate::asking::ANCESTRY;
 use crate::asking::BRANCH;
 use crate::asking::ask;
+use crate::common::apart;
+use crate::common::common;
 use samples::climbing::above;
 use samples::climbing::climbs;
 use samples::seeds::next;
@@ -9,26 +11,8 @@ use samples::seeds::pick;
 use samples::tally::Tally;
 use samples::words::TOP;
 use samples::words::add;
-use samples::words::get;
 use samples::words::less;
 use samples::words::narrow;
-
-// How many climbs lead from v to u, or n where none do.
-fn apart(parents: &[u32], n: usize, u: usize, v: usize) -> usize {
-    let mut at = v;
-    let mut k = 0;
-    while k < n {
-        if at == u {
-            return k;
-        }
-        if at == TOP {
-            return n;
-        }
-        at = get(parents, at);
-        k += 1;
-    }
-    n
-}
 
 // Ancestry of u and v, that is to give a number and a word, and branch, likewise.
 fn two(
@@ -54,7 +38,15 @@ fn two(
     ))
 }
 
-fn pair(table: &[u32], strings: &[u32], parents: &[u32], n: usize, u: usize, v: usize) -> Tally {
+// Ancestry and branch of a pair.
+fn relation(
+    table: &[u32],
+    strings: &[u32],
+    parents: &[u32],
+    n: usize,
+    u: usize,
+    v: usize,
+) -> Tally {
     if n <= u {
         return two(table, strings, u, v, 7, u, 7, u);
     }
@@ -69,6 +61,11 @@ fn pair(table: &[u32], strings: &[u32], parents: &[u32], n: usize, u: usize, v: 
         return two(table, strings, u, v, 0, 1, 10, u);
     }
     two(table, strings, u, v, 0, 1, 0, above(parents, v, less(k, 1)))
+}
+
+// All four questions of a pair.
+fn pair(table: &[u32], strings: &[u32], parents: &[u32], n: usize, u: usize, v: usize) -> Tally {
+    relation(table, strings, parents, n, u, v).plus(common(table, parents, n, u, v))
 }
 
 // An entry by number, then n, then the highest number.

@@ -1,8 +1,8 @@
--- `pairs::apart` is safe and ends. Assumes nothing.
+-- `common::apart` is safe and ends. Assumes nothing.
 use Prim.Native.Nat.{_-_}
 use native.Mathlib.Omega.{arith}
-use Rattle.question_trials.proofs.pairs.apart.Statement.{statement}
-use Rattle.question_trials.proofs.pairs.apart.Tie as tie
+use Rattle.question_trials.proofs.common.apart.Statement.{statement}
+use Rattle.question_trials.proofs.common.apart.Tie as tie
 
 abbrev Inv-loop : tie.InvT-loop
 Inv-loop parents n u v at₀ k₀ at k = Unit {0}
