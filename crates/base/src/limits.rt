@@ -1,6 +1,7 @@
 // The measures of a prepared table and of the working space, as `specs/Limits` defines them, and the top mark. Each number of the engine's code stands here; the
 // limits of rates, sums and sheets in `amounts`, the numbers of the answers in `numbers`, the size of an answer in `answers`, the counter program's own in `lines::room`, those of
-// a number in a text in `lines::reading`, the units of a checked sheet's words in `sheets`.
+// a number in a text in `lines::reading`, the units of a checked sheet's words in `sheets`, the strides of a search in
+// `common_ancestors`.
 ghost use mathlib.Core.Path.{_≡_};
 ghost use Rattle.base.specs.Limits.{headerOf, entriesOf, jumpRoom, tableWords, spaceWords};
 

@@ -8,7 +8,6 @@ use Prim.Native.Nat.{ℕ, zero, suc, _+_, _-_, _≤_, _<_}
 use native.Mathlib.Omega.{arith}
 use native.Mathlib.Decide.{decLt}
 use lib.ListN.{length}
-use lib.Dec.{eqb}
 use borrow.Author.Tests.{eq-eqb, ne-eqb}
 use Rattle.base.specs.Limits.{topMark}
 use Rattle.base.specs.Lists.{first, index, has}
@@ -16,7 +15,7 @@ use Rattle.base.proofs.Lists.{clash}
 use Rattle.tree.specs.Parents.{parent, up, climbWithin, climb, depth}
 use Rattle.tree.specs.Level.{Ancestor}
 use Rattle.tree.specs.Faults.{Tree}
-use Rattle.tree.proofs.Climbs.{entry-in, entry-some, parent-some, up-first, up-from, up-step, up-add}
+use Rattle.tree.proofs.Climbs.{entry-in, entry-some, up-first, up-from, up-step, up-add}
 use Rattle.tree.proofs.Depths.{climb-parent, up-depth}
 use Rattle.tree.proofs.Ancestry.{on-climb}
 use Rattle.common_ancestors.specs.Common.{nearestCommonAncestor, climbsTo, Nearest}

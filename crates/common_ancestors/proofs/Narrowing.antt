@@ -6,11 +6,10 @@ use mathlib.Core.Option.{some}
 use Prim.Native.Nat.{ℕ, zero, suc, _+_, _-_, _≤_, _<_}
 use native.Mathlib.Omega.{arith}
 use lib.ListN.{length, getD}
-use Rattle.base.specs.Limits.{topMark, depthCell, orderStart, orderCell}
+use Rattle.base.specs.Limits.{depthCell, orderStart, orderCell}
 use Rattle.tree.specs.Parents.{up, depth}
 use Rattle.tree.specs.Level.{Ancestor}
 use Rattle.tree.specs.Forest.{order}
-use Rattle.tree.specs.Faults.{Tree}
 use Rattle.tree.proofs.Climbs.{entry-in, entry-some, up-add}
 use Rattle.tree.proofs.Depths.{up-some, up-depth, root-depth}
 use Rattle.tree.proofs.Intervals.{ancestor-trans, depth-less, root-first}
@@ -18,15 +17,15 @@ use Rattle.tree.proofs.Positions.{at-position}
 use Rattle.answers.specs.Reading.{wordAt}
 use Rattle.climbs.proofs.TableWords.{small, tree, depth-word, order-word}
 use Rattle.common_ancestors.specs.Common.{Nearest}
-use Rattle.common_ancestors.specs.Parts.{Table, Given, Tried, Reaches, Nears}
+use Rattle.common_ancestors.specs.Parts.{Table, Given, Tried, Reaches, ClassAndClimbs}
 use Rattle.common_ancestors.specs.declared.search.Found.{Found}
 use Rattle.common_ancestors.specs.declared.trial.Trial.{Trial}
-use Rattle.common_ancestors.proofs.Climbs.{Meets, meets-nearest}
+use Rattle.common_ancestors.proofs.Climbs.{meets-nearest}
 use Rattle.common_ancestors.proofs.Theorems.{nearest-above, nearest-turned}
 
 -- what two entries share, and the climbs between them, are the same in either order
-pub nears-turned : (ps : List ℕ) (small : length ps ≤ topMark) (tree : Tree ps) (a b : ℕ) (r : Found) → Nears ps a b r → Nears ps b a r
-nears-turned ps small tree a b r m = record { found = m .found; nearest = nearest-turned ps small tree a b (r .word) (m .nearest); climbs = omega (arith, m .climbs) }
+pub nears-turned : (ps : List ℕ) (a b : ℕ) (r : Found) → ClassAndClimbs ps a b r → ClassAndClimbs ps b a r
+nears-turned ps a b r m = record { found = m .found; nearest = nearest-turned ps a b (r .word) (m .nearest); climbs = omega (arith, m .climbs) }
 
 -- fewer than `low` climbs from a lead to no entry on b's climb, and `high` climbs to `word`, which is one
 pub record Narrowed (ps : List ℕ) (a b low high word : ℕ) : Type 0 where
@@ -48,7 +47,7 @@ module _ (ps t : List ℕ) (n a b da : ℕ) (g : Given ps t n a b da) where
 
   -- the climbs from b too, which is so much deeper
   pub reached-both : (db : ℕ) (r : Found) → db ≡ depth ps b → da ≤ db → Reaches ps a b r
-      → Nears ps a b (record { number = 0; word = r .word; climbs = r .climbs + r .climbs + (db - da); tries = r .tries })
+      → ClassAndClimbs ps a b (record { number = 0; word = r .word; climbs = r .climbs + r .climbs + (db - da); tries = r .tries })
   reached-both db r e h m =
       let k = small ps t (g .of .prepared) in
       let c = tree ps t (g .of .prepared) in
@@ -66,7 +65,7 @@ module _ (ps t : List ℕ) (n a b da : ℕ) (g : Given ps t n a b da) where
       (ap (λ x. up ps x a) (sym z) ∙ r, record { climbs = j; reached = q })
 
   -- and stands first in the preorder
-  pub top-word : (word : ℕ) → word ≡ wordAt t (orderStart n) → word ≡ tree ps t (g .of .prepared) .root
+  top-word : (word : ℕ) → word ≡ wordAt t (orderStart n) → word ≡ tree ps t (g .of .prepared) .root
   top-word word e =
       let p = g .of .prepared in
       let k = small ps t p in

@@ -3,14 +3,14 @@ use mathlib.Core.Path.{_≡_, refl, sym, ap, _∙_}
 use mathlib.Core.Logic.{_⊎_, inl, inr}
 use mathlib.Core.List.{List, [], _∷_}
 use mathlib.Core.Bool.{Bool, true, false, cond}
-use mathlib.Core.Option.{Option, some, Option·elim}
+use mathlib.Core.Option.{Option, Option·elim}
 use Prim.Native.Nat.{ℕ, _*_, _≤_, _<_}
 use native.Mathlib.Omega.{arith}
 use native.Mathlib.Decide.{ℕ-discrete, decLe}
 use lib.ListN.{length}
 use lib.Dec.{eqb}
 use borrow.Author.Tests.{eq-eqb, ne-eqb, le-leb, lt-leb}
-use Rattle.base.specs.Lists.{some?, has}
+use Rattle.base.specs.Lists.{some?}
 use Rattle.base.specs.Numbers.{Outcome, accepted, unknown, broken, Says}
 use Rattle.table.specs.Preparing.{Prepared}
 use Rattle.climbs.proofs.TableWords.{small, tree}
@@ -18,8 +18,8 @@ use Rattle.query.specs.StepOne.{stepOne}
 use Rattle.query.proofs.StepOne.{step-prepared, step-numbers}
 use Rattle.common_ancestors.specs.Common.{nearestCommonAncestor, distance, bothKnown, ofBoth}
 use Rattle.common_ancestors.specs.Admission.{admission}
-use Rattle.common_ancestors.specs.Promises.{Enters, Gives}
-use Rattle.common_ancestors.specs.Parts.{bound, chosen, meaning, Answered, Table, Nears}
+use Rattle.common_ancestors.specs.Promises.{numbers, OnAnyTable, Gives}
+use Rattle.common_ancestors.specs.Parts.{bound, chosen, meaning, Answered, Table, ClassAndClimbs}
 use Rattle.common_ancestors.specs.declared.Sought.{Sought}
 use Rattle.common_ancestors.specs.declared.Sought.the-variants.{Class, Climbs}
 use Rattle.common_ancestors.specs.declared.search.Found.{Found}
@@ -74,7 +74,7 @@ module _ (t : List ℕ) (u v : ℕ) (o : Outcome) (e : o ≡ admission t u v) wh
   prepared ps p = e ∙ rw (step-prepared ps t p)
 
   module _ (n : o .number ≡ 0 → ⊥) where
-    pub refused-enters : (most : ℕ → ℕ) → Enters most t u v o
+    pub refused-enters : (most : ℕ → ℕ) → OnAnyTable most t u v o
     refused-enters most = record { refused = λ m. e; settled = λ z. absurd (n (ap (λ x. x .number) e ∙ z)) }
 
     refused-both : (ps : List ℕ) → Prepared ps t → (found : Option ℕ) → o ≡ ofBoth ps u v found
@@ -93,7 +93,7 @@ module _ (t : List ℕ) (u v : ℕ) (o : Outcome) (e : o ≡ admission t u v) wh
     refused-known ps p a b = n (ap (λ x. x .number) (prepared ps p ∙ both-known (length ps) u v (accepted (length ps)) a b))
 
   module _ (z : o .number ≡ 0) where
-    pub passed-enters : (most : ℕ → ℕ) (r : Outcome) → ((r .number ≡ 0) × (r .word < most (o .word))) ⊎ (r ≡ broken) → Enters most t u v r
+    pub passed-enters : (most : ℕ → ℕ) (r : Outcome) → ((r .number ≡ 0) × (r .word < most (o .word))) ⊎ (r ≡ broken) → OnAnyTable most t u v r
     passed-enters most r s = record { refused = λ m. absurd (m (sym (ap (λ x. x .number) e) ∙ z)); settled = λ q. rw (ap (λ x. x .word) e) at s }
 
     -- the number of entries is the list's, and both are entries of it
@@ -106,7 +106,7 @@ module _ (t : List ℕ) (u v : ℕ) (o : Outcome) (e : o ≡ admission t u v) wh
 
 -- the number of an answer is 0, 7 or 9
 abbrev Numbered : Outcome → Type 0
-Numbered o = Gives (0 ∷ 7 ∷ 9 ∷ []) o
+Numbered o = Gives numbers o
 
 settled-numbers : (r : Outcome) (m : ℕ) → ((r .number ≡ 0) × (r .word < m)) ⊎ (r ≡ broken) → Numbered r
 unfolding some?
@@ -130,7 +130,7 @@ admission-numbers t u v = go (eqb (stepOne t .number) 0) (both-cases (stepOne t 
     go true (inr (a, b, q)) = rw q (more (eqb number 0) (eqb number 7) (eqb number 9) (step-numbers t))
     go false c = more (eqb number 0) (eqb number 7) (eqb number 9) (step-numbers t)
 
-pub enters-numbers : (most : ℕ → ℕ) (t : List ℕ) (u v : ℕ) (o : Outcome) → Enters most t u v o → Numbered o
+pub enters-numbers : (most : ℕ → ℕ) (t : List ℕ) (u v : ℕ) (o : Outcome) → OnAnyTable most t u v o → Numbered o
 enters-numbers most t u v o h = go (ℕ-discrete (admission t u v .number) 0)
   where
     go : Dec (admission t u v .number ≡ 0) → Numbered o
@@ -154,6 +154,6 @@ pub chosen-bound : (s : Sought) (n class climbs : ℕ) → class < n → climbs 
 chosen-bound Class n class climbs a b = a
 chosen-bound Climbs n class climbs a b = b
 
-pub chosen-answered : (s : Sought) (ps : List ℕ) (u v : ℕ) (r : Found) → Nears ps u v r → Answered s ps u v (accepted (chosen s (r .word) (r .climbs)))
+pub chosen-answered : (s : Sought) (ps : List ℕ) (u v : ℕ) (r : Found) → ClassAndClimbs ps u v r → Answered s ps u v (accepted (chosen s (r .word) (r .climbs)))
 chosen-answered Class ps u v r m = record { found = refl; nearest = m .nearest }
 chosen-answered Climbs ps u v r m = record { found = refl; class = r .word; nearest = m .nearest; climbs = m .climbs }

@@ -3,28 +3,31 @@ use mathlib.Core.Path.{_≡_, sym, ap, _∙_}
 use mathlib.Core.Logic.{_↔_}
 use mathlib.Core.List.{List}
 use mathlib.Core.Option.{some, Option·some-injective}
-use Prim.Native.Nat.{ℕ, zero, suc, _+_, _-_, _*_, _≤_, _<_}
+use Prim.Native.Nat.{ℕ, _+_, _-_, _*_, _≤_, _<_}
 use native.Mathlib.Omega.{arith}
+use native.Mathlib.Decide.{ℕ-discrete}
 use lib.ListN.{length}
 use Rattle.base.specs.Limits.{topMark}
-use Rattle.tree.specs.Parents.{up, depth}
+use Rattle.tree.specs.Parents.{depth}
 use Rattle.tree.specs.Level.{Ancestor}
 use Rattle.tree.specs.Faults.{Tree}
-use Rattle.tree.proofs.Climbs.{entry-some}
 use Rattle.tree.proofs.Depths.{up-depth}
 use Rattle.tree.proofs.Intervals.{ancestor-in, ancestor-self}
+use Rattle.tree.proofs.Ancestry.{strictly-deeper}
 use Rattle.common_ancestors.specs.Common.{nearestCommonAncestor, distance, Nearest}
 use Rattle.common_ancestors.proofs.Climbs.{place-up, nearest-defined}
+
+pub nearest-turned : (ps : List ℕ) (u v w : ℕ) → Nearest ps u v w → Nearest ps v u w
+nearest-turned ps u v w n = record { above-first = n .above-second; above-second = n .above-first; lowest = λ x a b. n .lowest x b a }
 
 module _ (ps : List ℕ) (small : length ps ≤ topMark) (tree : Tree ps) where
   -- an ancestor that is as deep is the entry itself
   as-deep : (x y : ℕ) → Ancestor ps x y → depth ps y ≤ depth ps x → x ≡ y
-  unfolding up
-  as-deep x y a h = go (a .climbs) (a .reached)
+  as-deep x y a h = go (ℕ-discrete x y)
     where
-      go : (k : ℕ) → up ps k y ≡ some x → x ≡ y
-      go zero e = sym (entry-some ps y x e .0)
-      go (suc k) e = absurd (omega (arith, up-depth ps small tree (suc k) y x e))
+      go : Dec (x ≡ y) → x ≡ y
+      go (yes e) = e
+      go (no n) = absurd (omega (arith, strictly-deeper ps small tree x y a n))
 
   -- definition 1.2 of 000: of the entries on both climbs the nearest common ancestor is the deepest, and no other is as deep
   pub nearest-deepest : (u v w x : ℕ) → Nearest ps u v w → Ancestor ps x u → Ancestor ps x v → (depth ps x ≤ depth ps w) × (depth ps x ≡ depth ps w → x ≡ w)
@@ -44,11 +47,8 @@ module _ (ps : List ℕ) (small : length ps ≤ topMark) (tree : Tree ps) where
       let (x, (e, n)) = nearest-defined ps small tree u v hu hv in
       (λ q. let z : x ≡ w = Option·some-injective x w (sym e ∙ q) in rw z at n, λ m. e ∙ ap some (nearest-one u v x w n m))
 
-  pub nearest-turned : (u v w : ℕ) → Nearest ps u v w → Nearest ps v u w
-  nearest-turned u v w n = record { above-first = n .above-second; above-second = n .above-first; lowest = λ x a b. n .lowest x b a }
-
   pub nearest-symmetric : (u v : ℕ) → u < length ps → v < length ps → nearestCommonAncestor ps u v ≡ nearestCommonAncestor ps v u
-  nearest-symmetric u v hu hv = let (w, (e, n)) = nearest-defined ps small tree u v hu hv in e ∙ sym (nearest-iff v u w hv hu .1 (nearest-turned u v w n))
+  nearest-symmetric u v hu hv = let (w, (e, n)) = nearest-defined ps small tree u v hu hv in e ∙ sym (nearest-iff v u w hv hu .1 (nearest-turned ps u v w n))
 
   -- "an entry above the other is the answer", in either order
   pub nearest-above : (u v : ℕ) → Ancestor ps u v → Nearest ps u v u
@@ -80,7 +80,7 @@ module _ (ps : List ℕ) (small : length ps ≤ topMark) (tree : Tree ps) where
   distance-symmetric u v hu hv =
       let (w, (e, n)) = nearest-defined ps small tree u v hu hv in
       let z : depth ps u + depth ps v - 2 * depth ps w ≡ depth ps v + depth ps u - 2 * depth ps w = omega arith in
-      distance-depths u v w hu hv n .2 ∙ ap some z ∙ sym (distance-depths v u w hv hu (nearest-turned u v w n) .2)
+      distance-depths u v w hu hv n .2 ∙ ap some z ∙ sym (distance-depths v u w hv hu (nearest-turned ps u v w n) .2)
 
   -- it is 0 just where the entries are equal
   pub distance-zero-iff : (u v : ℕ) → u < length ps → v < length ps → (distance ps u v ≡ some 0) ↔ (u ≡ v)

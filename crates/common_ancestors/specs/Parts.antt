@@ -12,17 +12,24 @@ use Rattle.tree.specs.Parents.{up, depth}
 use Rattle.tree.specs.Level.{Ancestor}
 use Rattle.table.specs.Preparing.{Prepared}
 use Rattle.common_ancestors.specs.Common.{Nearest, nearestOf, distanceOf}
-use Rattle.common_ancestors.specs.Promises.{Shares, Counts}
+use Rattle.common_ancestors.specs.Promises.{classBound, climbBound, Shares, Counts}
 use Rattle.common_ancestors.specs.declared.Sought.{Sought}
 use Rattle.common_ancestors.specs.declared.Sought.the-variants.{Class, Climbs}
 use Rattle.common_ancestors.specs.declared.search.Ends.{Ends}
 use Rattle.common_ancestors.specs.declared.search.Found.{Found}
 use Rattle.common_ancestors.specs.declared.trial.Trial.{Trial}
 
+-- how many entries of a climb are tried with strides that grow, and how many at the most: each further try halves what is left of less than 2^20
+abbrev pub firstTries : ℕ
+firstTries = 3
+
+abbrev pub mostTries : ℕ
+mostTries = firstTries + 20
+
 -- of either question: what its result is less than, of n entries; which it is of class and climbs; what it means; what is found
 abbrev pub bound : Sought → ℕ → ℕ
-bound Class n = n
-bound Climbs n = 2 * n
+bound Class = classBound
+bound Climbs = climbBound
 
 abbrev pub chosen : Sought → ℕ → ℕ → ℕ
 chosen Class class climbs = class
@@ -62,9 +69,9 @@ pub record Tried (ps : List ℕ) (x b : ℕ) (r : Trial) : Type 0 where
 -- u and v of those depths, the less deep first
 abbrev pub Ordered : Node → Node → ℕ → ℕ → Ends → Type 0
 Ordered u v du dv r =
-    ((du ≤ dv) × (r ≡ record { upper = u; lower = v; depth = du; below = dv - du })) ⊎ ((dv < du) × (r ≡ record { upper = v; lower = u; depth = dv; below = du - dv }))
+    ((du ≤ dv) × (r ≡ record { first = u; second = v; depth = du; below = dv - du })) ⊎ ((dv < du) × (r ≡ record { first = v; second = u; depth = dv; below = du - dv }))
 
--- an entry of n, and no more climbs than da; or 9
+-- where the number is 0: an entry of n, and no more climbs than da
 abbrev pub Settled : ℕ → ℕ → Found → Type 0
 Settled n da r = (r .number ≡ 0) → (r .word < n) × (r .climbs ≤ da)
 
@@ -74,8 +81,8 @@ pub record Reaches (ps : List ℕ) (a b : ℕ) (r : Found) : Type 0 where
   pub reached : up ps (r .climbs) a ≡ some (r .word)
   pub nearest : Nearest ps a b (r .word)
 
--- what both questions give
-pub record Nears (ps : List ℕ) (u v : ℕ) (r : Found) : Type 0 where
+-- what u and v share, and the climbs between them
+pub record ClassAndClimbs (ps : List ℕ) (u v : ℕ) (r : Found) : Type 0 where
   pub found : r .number ≡ 0
   pub nearest : Nearest ps u v (r .word)
   pub climbs : r .climbs ≡ depth ps u + depth ps v - 2 * depth ps (r .word)

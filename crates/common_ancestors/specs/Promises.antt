@@ -18,14 +18,25 @@ use Rattle.common_ancestors.specs.Admission.{admission}
 abbrev pub said : Reply → Outcome
 said r = record { number = r .number; word = r .word }
 
+-- what a result is less than, of n entries: a class is an entry, and climbs are fewer than twice the entries
+abbrev pub classBound : ℕ → ℕ
+classBound n = n
+
+abbrev pub climbBound : ℕ → ℕ
+climbBound n = 2 * n
+
 -- the refusal where there is one; else a result within a bound for that many entries, or 9: "for a table that preparing didn't write, anything further is open"
-pub record Enters (most : ℕ → ℕ) (t : List ℕ) (u v : ℕ) (o : Outcome) : Type 0 where
+pub record OnAnyTable (most : ℕ → ℕ) (t : List ℕ) (u v : ℕ) (o : Outcome) : Type 0 where
   pub refused : (admission t u v .number ≡ 0 → ⊥) → o ≡ admission t u v
   pub settled : admission t u v .number ≡ 0 → ((o .number ≡ 0) × (o .word < most (admission t u v .word))) ⊎ (o ≡ broken)
 
+-- the numbers that both give
+abbrev pub numbers : List ℕ
+numbers = 0 ∷ 7 ∷ 9 ∷ []
+
 -- the number is one of a list
 abbrev pub Gives : List ℕ → Outcome → Type 0
-Gives numbers o = has numbers (o .number) ≡ true
+Gives ns o = has ns (o .number) ≡ true
 
 -- for every list from which the table is prepared, the answer is what the question means on that list
 abbrev pub Right : (List ℕ → Outcome) → List ℕ → Outcome → Type 0
@@ -55,7 +66,7 @@ withoutCells o = answerWords (record { number = o .number; word = o .word; cells
 pub record Words (most : ℕ → ℕ) (meaning : List ℕ → Outcome) (answered : List ℕ → ℕ → ℕ → Outcome → Type 0) (t : List ℕ) (u v : ℕ) (words : List ℕ) : Type 0 where
   pub answer : Outcome
   pub written : words ≡ withoutCells answer
-  pub enters : Enters most t u v answer
-  pub numbers : Gives (0 ∷ 7 ∷ 9 ∷ []) answer
+  pub any : OnAnyTable most t u v answer
+  pub gives : Gives numbers answer
   pub right : Right meaning t answer
   pub known : Known answered u v t answer

@@ -3,12 +3,12 @@ mod search;
 mod trial;
 
 ghost use mathlib.Core.Path.{_≡_};
-ghost use mathlib.Core.List.{[], _∷_};
-ghost use Prim.Native.Nat.{_*_, _<_};
+ghost use Prim.Native.Nat.{_<_};
 ghost use Rattle.base.specs.Limits.{Sized};
+ghost use Rattle.base.specs.Numbers.{broken};
 ghost use Rattle.common_ancestors.specs.Common.{nearestOf, distanceOf};
 ghost use Rattle.common_ancestors.specs.Admission.{admission};
-ghost use Rattle.common_ancestors.specs.Promises.{said, Enters, Gives, Right, Known, Shares, Counts, Words};
+ghost use Rattle.common_ancestors.specs.Promises.{said, classBound, climbBound, numbers, OnAnyTable, Gives, Right, Known, Shares, Counts, Words};
 ghost use Rattle.common_ancestors.specs.Parts.{bound, meaning, Answered, chosen};
 use crate::search::nearest;
 use answers::ANSWER_WORDS;
@@ -29,8 +29,8 @@ pub enum Sought {
 
 // The nearest common ancestor of u and v: the deepest class that holds both, which is the first entry on both climbs to the top.
 pub fn nearest_common_ancestor(table: &[u32], u: Node, v: Node) -> Reply
-    ensures enters { λ r. ⌜ Enters (λ n. n) (now (table .entry)) (u .0) (v .0) (said r) ⌝ }
-    ensures numbers { λ r. ⌜ Gives (0 ∷ 7 ∷ 9 ∷ []) (said r) ⌝ }
+    ensures any { λ r. ⌜ OnAnyTable classBound (now (table .entry)) (u .0) (v .0) (said r) ⌝ }
+    ensures numbers { λ r. ⌜ Gives numbers (said r) ⌝ }
     ensures right { λ r. ⌜ Right (λ ps. nearestOf ps (u .0) (v .0)) (now (table .entry)) (said r) ⌝ }
     ensures known { λ r. ⌜ Known Shares (u .0) (v .0) (now (table .entry)) (said r) ⌝ }
 {
@@ -39,8 +39,8 @@ pub fn nearest_common_ancestor(table: &[u32], u: Node, v: Node) -> Reply
 
 // The distance of u and v: the number of climbs between them through the class that they share.
 pub fn distance(table: &[u32], u: Node, v: Node) -> Reply
-    ensures enters { λ r. ⌜ Enters (λ n. 2 * n) (now (table .entry)) (u .0) (v .0) (said r) ⌝ }
-    ensures numbers { λ r. ⌜ Gives (0 ∷ 7 ∷ 9 ∷ []) (said r) ⌝ }
+    ensures any { λ r. ⌜ OnAnyTable climbBound (now (table .entry)) (u .0) (v .0) (said r) ⌝ }
+    ensures numbers { λ r. ⌜ Gives numbers (said r) ⌝ }
     ensures right { λ r. ⌜ Right (λ ps. distanceOf ps (u .0) (v .0)) (now (table .entry)) (said r) ⌝ }
     ensures known { λ r. ⌜ Known Counts (u .0) (v .0) (now (table .entry)) (said r) ⌝ }
 {
@@ -68,8 +68,8 @@ pub fn answer_words(
 }
 
 fn answer(table: &[u32], sought: Sought, u: Node, v: Node) -> Reply
-    ensures enters { λ r. ⌜ Enters (bound sought) (now (table .entry)) (u .0) (v .0) (said r) ⌝ }
-    ensures numbers { λ r. ⌜ Gives (0 ∷ 7 ∷ 9 ∷ []) (said r) ⌝ }
+    ensures any { λ r. ⌜ OnAnyTable (bound sought) (now (table .entry)) (u .0) (v .0) (said r) ⌝ }
+    ensures numbers { λ r. ⌜ Gives numbers (said r) ⌝ }
     ensures right { λ r. ⌜ Right (λ ps. meaning sought ps (u .0) (v .0)) (now (table .entry)) (said r) ⌝ }
     ensures known { λ r. ⌜ Known (Answered sought) (u .0) (v .0) (now (table .entry)) (said r) ⌝ }
 {
@@ -122,7 +122,7 @@ fn admitted(table: &[u32], u: Node, v: Node) -> Reply
 
 // 9: the table is broken.
 fn broken() -> Reply
-    ensures { λ r. ⌜ r ≡ record { number = 9; word = 0 } ⌝ }
+    ensures { λ r. ⌜ said r ≡ broken ⌝ }
 {
     Reply {
         number: BROKEN,

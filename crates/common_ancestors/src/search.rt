@@ -4,7 +4,8 @@ ghost use mathlib.Core.List.{List};
 ghost use Prim.Native.Nat.{ℕ, _+_, _*_, _<_, _≤_};
 ghost use Rattle.base.specs.Limits.{Sized, mostEntries};
 ghost use Rattle.tree.specs.Level.{Ancestor};
-ghost use Rattle.common_ancestors.specs.Parts.{Table, Given, Settled, Reaches, Nears, Ordered};
+ghost use Rattle.common_ancestors.specs.Promises.{climbBound};
+ghost use Rattle.common_ancestors.specs.Parts.{firstTries, mostTries, Table, Given, Settled, Reaches, ClassAndClimbs, Ordered};
 use crate::trial::depth_of;
 use crate::trial::is_above;
 use crate::trial::top_of;
@@ -14,7 +15,7 @@ use base::limits::MOST_ENTRIES;
 use base::numbers::ACCEPTED;
 use base::numbers::BROKEN;
 
-// An entry that is on both climbs, how many climbs lead to it, and how many entries were tried: for each a lookup and a test.
+// What was found, or 9: an entry on both climbs, the climbs to it, from the less deep entry or, of `nearest`, from both, and how many entries were looked up and tested.
 pub struct Found {
     pub number: u32,
     pub word: u32,
@@ -22,10 +23,10 @@ pub struct Found {
     pub tries: u32,
 }
 
-// Two entries, of which the first is not the deeper.
+// Two entries, of which the first is not the deeper: its depth, and how much deeper the second is.
 pub struct Ends {
-    pub upper: Node,
-    pub lower: Node,
+    pub first: Node,
+    pub second: Node,
     pub depth: u32,
     pub below: u32,
 }
@@ -33,9 +34,9 @@ pub struct Ends {
 // The first entry on both climbs, and the climbs to it from both.
 pub(crate) fn nearest(table: &[u32], n: u32, u: Node, v: Node) -> Found
     requires { ⌜ (Sized (now table) n) × (u .0 < n) × (v .0 < n) ⌝ }
-    ensures few { λ r. ⌜ r .tries ≤ 23 ⌝ }
-    ensures settled { λ r. ⌜ (r .number ≡ 0 → (r .word < n) × (r .climbs < 2 * n)) ⌝ }
-    ensures right { λ r. ⌜ ((ps : List ℕ) → Table ps (now (table .entry)) n → Nears ps (u .0) (v .0) r) ⌝ }
+    ensures few { λ r. ⌜ r .tries ≤ mostTries ⌝ }
+    ensures settled { λ r. ⌜ (r .number ≡ 0 → (r .word < n) × (r .climbs < climbBound n)) ⌝ }
+    ensures right { λ r. ⌜ ((ps : List ℕ) → Table ps (now (table .entry)) n → ClassAndClimbs ps (u .0) (v .0) r) ⌝ }
 {
     let du = depth_of(table, n, u);
     let dv = depth_of(table, n, v);
@@ -46,7 +47,7 @@ pub(crate) fn nearest(table: &[u32], n: u32, u: Node, v: Node) -> Found
         return broken_after(0);
     }
     let ends = by_depth(u, v, du, dv);
-    let found = first_above(table, n, ends.upper, ends.lower, ends.depth);
+    let found = first_above(table, n, ends.first, ends.second, ends.depth);
     if found.number != ACCEPTED {
         return found;
     }
@@ -58,21 +59,21 @@ pub(crate) fn nearest(table: &[u32], n: u32, u: Node, v: Node) -> Found
     }
 }
 
-// The less deep entry first, with its depth and how much deeper the other is.
+// The less deep entry first.
 fn by_depth(u: Node, v: Node, du: u32, dv: u32) -> Ends
     ensures { λ r. ⌜ Ordered u v du dv r ⌝ }
 {
     if dv < du {
         return Ends {
-            upper: v,
-            lower: u,
+            first: v,
+            second: u,
             depth: dv,
             below: du - dv,
         };
     }
     Ends {
-        upper: u,
-        lower: v,
+        first: u,
+        second: v,
         depth: du,
         below: dv - du,
     }
@@ -81,7 +82,7 @@ fn by_depth(u: Node, v: Node, du: u32, dv: u32) -> Ends
 // The first entry of a's climb that is on b's, where a is `da` deep, and the climbs to it from a.
 fn first_above(table: &[u32], n: u32, a: Node, b: Node, da: u32) -> Found
     requires { ⌜ (Sized (now table) n) × (a .0 < n) × (da < n) ⌝ }
-    ensures few { λ r. ⌜ r .tries ≤ 23 ⌝ }
+    ensures few { λ r. ⌜ r .tries ≤ mostTries ⌝ }
     ensures settled { λ r. ⌜ Settled n da r ⌝ }
     ensures right { λ r. ⌜ ((ps : List ℕ) → Given ps (now (table .entry)) n (a .0) (b .0) da → Reaches ps (a .0) (b .0) r) ⌝ }
 {
@@ -99,7 +100,7 @@ fn first_above(table: &[u32], n: u32, a: Node, b: Node, da: u32) -> Found
 // The same, where a is not at or above b. Fewer than `low` climbs from a lead to no entry of b's climb, and `high` climbs lead to `word`, which is one: at first the top.
 fn search(table: &[u32], n: u32, a: Node, b: Node, da: u32) -> Found
     requires { ⌜ (Sized (now table) n) × (da < n) ⌝ }
-    ensures few { λ r. ⌜ r .tries ≤ 23 ⌝ }
+    ensures few { λ r. ⌜ r .tries ≤ mostTries ⌝ }
     ensures settled { λ r. ⌜ Settled n da r ⌝ }
     ensures right { λ r. ⌜ ((ps : List ℕ) → Given ps (now (table .entry)) n (a .0) (b .0) da → (Ancestor ps (a .0) (b .0) → ⊥) → Reaches ps (a .0) (b .0) r) ⌝ }
 {
@@ -157,10 +158,10 @@ fn middle(low: u32, high: u32) -> u32
     low + (high - low) / 2
 }
 
-// The climbs to try next past a try that was too low: after the first two a stride past it, so that entries near each other are found soon, then half way.
+// The climbs to try next past a try that was too low: at first by a stride, so that entries near each other are found soon, then half way.
 fn next(low: u32, high: u32, tries: u32) -> u32
     requires { ⌜ (low ≤ high) × (high ≤ mostEntries) ⌝ }
-    ensures { λ r. ⌜ (low ≤ r) × (2 * r ≤ low + high) × (3 ≤ tries → low + high ≤ 2 * r + 1) ⌝ }
+    ensures { λ r. ⌜ (low ≤ r) × (2 * r ≤ low + high) × (firstTries ≤ tries → low + high ≤ 2 * r + 1) ⌝ }
 {
     let half = middle(low, high);
     let stride = stride(tries);
@@ -170,12 +171,11 @@ fn next(low: u32, high: u32, tries: u32) -> u32
     half
 }
 
-// 1, 5 and 21 climbs are tried first.
+// How far past the last try the next one goes: so that 1, 5 and 21 climbs are tried first, and no stride is past half way after them.
 fn stride(tries: u32) -> u32
-    ensures { λ r. ⌜ (3 ≤ tries → mostEntries ≤ r) ⌝ }
+    ensures { λ r. ⌜ (firstTries ≤ tries → mostEntries ≤ r) ⌝ }
 {
     match tries {
-        0 => 0,
         1 => 3,
         2 => 15,
         _ => MOST_ENTRIES,

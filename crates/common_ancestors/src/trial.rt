@@ -1,4 +1,4 @@
-// What the search asks of the table, each by a question's promise: an entry's depth, the entry so many climbs above another, and whether it is at or above a third.
+// What the search asks of the table. Depths and the top are read from DEPTH and ORDER; the entry so many climbs above another, and whether it is at or above a third, are questions.
 ghost use mathlib.Core.Path.{_≡_};
 ghost use mathlib.Core.List.{List};
 ghost use mathlib.Core.Bool.{false};

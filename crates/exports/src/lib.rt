@@ -1,14 +1,13 @@
-// The C interface: measures, preparing, the five questions, the nearest common ancestor and the distance, the premium by a list of rates and by a sheet with bands. A slice is a pointer and a length. An answer is
-// written to an array of the caller's: preparing's to two words, a check's to three, a question's to eighteen, with the money beside it.
+// The C interface: measures, preparing, the five questions, the nearest common ancestor and the distance, the premium by a list of rates and by a sheet with bands. A slice is
+// a pointer and a length. An answer is written to an array of the caller's: preparing's to two words, a check's to three, a question's to eighteen, with the money beside it.
 ghost use mathlib.Core.Path.{_≡_};
-ghost use Prim.Native.Nat.{_*_};
 ghost use lib.ListN.{length};
 ghost use Rattle.base.specs.Limits.{tableWords, spaceWords};
 ghost use Rattle.table.specs.Preparing.{preparing, tableAfter, spaceAfter};
 ghost use Rattle.answers.specs.Answers.{answerTo, answerWords};
 ghost use Rattle.answers.specs.Steps.{level, climbing, rating, ancestry, branch};
 ghost use Rattle.common_ancestors.specs.Common.{nearestOf, distanceOf};
-ghost use Rattle.common_ancestors.specs.Promises.{Shares, Counts, Words};
+ghost use Rattle.common_ancestors.specs.Promises.{classBound, climbBound, Shares, Counts, Words};
 ghost use Rattle.premiums.specs.Quotes.{quoteTo};
 ghost use Rattle.sheets.specs.Verdicts.{checkTo, bandsOn};
 ghost use Rattle.sheets.specs.Checked.{Checked};
@@ -112,7 +111,7 @@ pub extern "C" fn tantsheko_nearest_common_ancestor(
     v: u32,
     answer: &mut [u32; ANSWER_WORDS],
 )
-    ensures { λ _. ⌜ Words (λ n. n) (λ ps. nearestOf ps u v) Shares (now (table .entry)) u v (now (answer .exit)) ⌝ }
+    ensures { λ _. ⌜ Words classBound (λ ps. nearestOf ps u v) Shares (now (table .entry)) u v (now (answer .exit)) ⌝ }
 {
     answer_words(table, Sought::Class, Node(u), Node(v), answer);
 }
@@ -125,7 +124,7 @@ pub extern "C" fn tantsheko_distance(
     v: u32,
     answer: &mut [u32; ANSWER_WORDS],
 )
-    ensures { λ _. ⌜ Words (λ n. 2 * n) (λ ps. distanceOf ps u v) Counts (now (table .entry)) u v (now (answer .exit)) ⌝ }
+    ensures { λ _. ⌜ Words climbBound (λ ps. distanceOf ps u v) Counts (now (table .entry)) u v (now (answer .exit)) ⌝ }
 {
     answer_words(table, Sought::Climbs, Node(u), Node(v), answer);
 }

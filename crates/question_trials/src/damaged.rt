@@ -1,4 +1,5 @@
-// Questions on damaged tables, held to the printed steps: what a wrong word leads to has no plain climb to be compared with.
+// Questions on damaged tables, held to the printed steps, and to step 1 and bounds where they list no cells: what a wrong word leads to has no plain climb to be
+// compared with.
 use crate::asking::ANCESTRY;
 use crate::asking::BRANCH;
 use crate::asking::CLIMB;
@@ -18,6 +19,7 @@ use samples::words::less;
 use samples::words::narrow;
 use samples::words::put;
 use samples::words::times;
+use samples::words::wide;
 
 const MICRO: usize = 2147483648;
 
@@ -62,7 +64,7 @@ fn about(
         .plus(compare(table, strings, ANCESTRY, u, entry))
         .plus(compare(table, strings, BRANCH, u, entry))
         .plus(compare(table, strings, BRANCH, entry, other))
-        .plus(common_any(table, v, pick(seed, n)))
+        .plus(common_any(table, v, wide(other)))
 }
 
 // Questions about every entry that there was, and about n.

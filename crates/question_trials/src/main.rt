@@ -1,13 +1,19 @@
 // Tries the five questions on the prepared tables of many trees: each answer against a plain climb of the parent list, and whole against a walk of the
-// printed steps. Then tries them on damaged tables, against that walk. The two questions about what entries share are tried with them, against two plain climbs.
+// printed steps. Then tries them on damaged tables, against that walk. With them the two questions about what entries share: against two plain climbs, on forks too, and on a
+// damaged table against step 1 and bounds.
 mod asking;
 mod common;
 mod damaged;
+mod forks;
 mod levels;
 mod pairs;
 mod printed;
 
 use crate::damaged::damaged;
+use crate::forks::FORKS;
+use crate::forks::fork_pairs;
+use crate::forks::lay_fork;
+use crate::forks::stem_at;
 use crate::levels::levels;
 use crate::pairs::pairs;
 use crate::printed::say;
@@ -20,10 +26,12 @@ use samples::tally::Tally;
 use samples::words::add;
 use samples::words::times;
 
-// The lines of the output: the kinds, all small trees, and the kinds with damaged tables.
-const DAMAGED: usize = 8;
+// The lines of the output: the kinds, all small trees, forks, and the kinds with damaged tables.
+const FORKED: usize = 8;
 
-const LINES: usize = 15;
+const DAMAGED: usize = 9;
+
+const LINES: usize = 16;
 
 // The table of the list of n entries.
 fn lay(parents: &[u32], n: usize, table: &mut [u32], space: &mut [u32]) {
@@ -91,6 +99,24 @@ fn lists(
     sum
 }
 
+// What two entries share in a fork with a stem of so many entries.
+fn fork(stem: usize, parents: &mut [u32], table: &mut [u32], space: &mut [u32]) -> Tally {
+    let n = lay_fork(parents, stem);
+    lay(parents, n, table, space);
+    fork_pairs(table, parents, n, stem)
+}
+
+// In each fork.
+fn all_forks(parents: &mut [u32], table: &mut [u32], space: &mut [u32]) -> Tally {
+    let mut sum = Tally::new();
+    let mut i = 0;
+    while i < FORKS {
+        sum = sum.plus(fork(stem_at(i), parents, table, space));
+        i += 1;
+    }
+    sum
+}
+
 // How many lists of a kind have their tables damaged: random and deep trees have a large one more.
 fn damaged_count(kind: usize) -> usize {
     if kind % 4 == 2 { 6 } else { 5 }
@@ -137,6 +163,9 @@ fn line_tally(
 ) -> Tally {
     if DAMAGED <= line {
         return damaged_lists(line - DAMAGED, parents, table, space, strings);
+    }
+    if line == FORKED {
+        return all_forks(parents, table, space);
     }
     if line < KINDS {
         return lists(line, parents, table, space, strings);

@@ -4,13 +4,13 @@ use samples::tally::Tally;
 use samples::words::less;
 
 fn name(line: usize) {
-    if line < 8 {
-        let names = b"chain,star,random,caterpillar,binary,broom,deep,grown,";
+    if line < 9 {
+        let names = b"chain,star,random,caterpillar,binary,broom,deep,grown,fork,";
         io::write_all(1, field(names, line));
     } else {
         let names =
             b"damaged chain,damaged star,damaged random,damaged caterpillar,damaged binary,damaged broom,damaged deep,total,";
-        io::write_all(1, field(names, less(line, 8)));
+        io::write_all(1, field(names, less(line, 9)));
     }
 }
 

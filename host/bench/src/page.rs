@@ -62,6 +62,11 @@ pub fn summary(rows: &[Row]) -> String {
     text
 }
 
+/// Proved, by hand, and the ratio.
+fn told([a, b]: [f64; 2]) -> String {
+    format!("{a:.1} / {b:.1} = {:.2}", a / b)
+}
+
 /// Which pairs of a tree were asked.
 fn which(row: &pairs::Row) -> &'static str {
     if row.near {
@@ -88,7 +93,7 @@ pub fn pair_line(row: &pairs::Row) -> String {
 
 /// The medians of the ratios of questions about two entries, and the greatest.
 pub fn pair_summary(rows: &[pairs::Row]) -> String {
-    let told = |name: &str, of: &dyn Fn(&pairs::Row) -> [f64; 2]| {
+    let named = |name: &str, of: &dyn Fn(&pairs::Row) -> [f64; 2]| {
         let all: Vec<f64> = rows.iter().map(|r| ratio(of(r))).collect();
         let most = all.iter().copied().fold(0.0, f64::max);
         format!(
@@ -98,8 +103,8 @@ pub fn pair_summary(rows: &[pairs::Row]) -> String {
     };
     format!(
         "{} {}",
-        told("Nearest common ancestor", &|r| r.nearest),
-        told("Distance", &|r| r.distance)
+        named("Nearest common ancestor", &|r| r.nearest),
+        named("Distance", &|r| r.distance)
     )
 }
 
@@ -107,7 +112,6 @@ fn pair_table(rows: &[pairs::Row]) -> String {
     let mut text = String::from(
         "| entries | kind | pairs | nearest common ancestor | distance | plain climb |\n|---:|---|---|---:|---:|---:|\n",
     );
-    let told = |[a, b]: [f64; 2]| format!("{a:.1} / {b:.1} = {:.2}", a / b);
     for r in rows {
         text.push_str(&format!(
             "| {} | {} | {} | {} | {} | {:.0} |\n",
@@ -162,7 +166,7 @@ fn question_table(rows: &[Row]) -> String {
         let cells: Vec<String> = r
             .questions
             .iter()
-            .map(|&[a, b]| format!("{a:.1} / {b:.1} = {:.2}", a / b))
+            .map(|&times| told(times))
             .collect();
         text.push_str(&format!(
             "| {} | {} | {} | {:.0} | {:.1} |\n",

@@ -1,7 +1,7 @@
 //! Questions about two entries: the proved search beside the same search by hand, and a plain climb from both.
 
 use crate::work::{clock, median, times};
-use reference::{trees, TOP};
+use reference::trees;
 use tantsheko::Table;
 
 /// How many pairs are asked.
@@ -27,15 +27,7 @@ fn make(kind: usize, n: usize) -> (&'static str, Vec<u32>) {
     if kind < trees::KINDS.len() {
         return (trees::KINDS[kind], trees::make(kind, n, seed, true));
     }
-    let mut name: Vec<u32> = (0..n as u32).collect();
-    for i in (1..n).rev() {
-        name.swap(i, trees::below(seed, i + 1) as usize);
-    }
-    let mut parents = vec![TOP; n];
-    for i in 1..n {
-        parents[name[i] as usize] = name[i.saturating_sub(2)];
-    }
-    ("fork", parents)
+    ("fork", trees::permute(&trees::fork(1, n), seed))
 }
 
 /// Any two entries, or two of which the second follows the first in the preorder by eight places at the most.

@@ -1,7 +1,7 @@
 //! The nearest common ancestor of two entries, and the climbs between them, by the search that the proved code makes. No
 //! cell is noted, and step 1 is taken once.
 
-use crate::questions::{ancestor_at, known, open, Answer, Refusal};
+use crate::questions::{ancestor_at, both_known, known, open, Answer, Reader, Refusal, BROKEN};
 use crate::Sections;
 
 /// How far past the tries before it the next one goes, at the most: 1, 5 and 21 climbs, then half way.
@@ -33,6 +33,9 @@ fn first_above(
     }
     // The top is on both climbs.
     let mut found = known(t[s.order()], s)?;
+    if depth == 0 {
+        return Err(BROKEN);
+    }
     let (mut low, mut high) = (1, depth);
     let mut tries = 0;
     while low < high {
@@ -54,11 +57,7 @@ fn first_above(
 fn shared(mut t: &[u32], u: u32, v: u32) -> Result<(u32, u32), Refusal> {
     let len = t.len();
     let s = open(&mut t, len)?;
-    for entry in [u, v] {
-        if entry as usize >= s.n {
-            return Err((7, entry));
-        }
-    }
+    both_known(s, u, v)?;
     let du = known(t[s.depth() + u as usize], s)?;
     let dv = known(t[s.depth() + v as usize], s)?;
     let (w, climbs) = if du <= dv {
@@ -69,24 +68,14 @@ fn shared(mut t: &[u32], u: u32, v: u32) -> Result<(u32, u32), Refusal> {
     Ok((w, 2 * climbs + du.abs_diff(dv)))
 }
 
-fn answer(result: Result<u32, Refusal>) -> Answer {
-    let (number, word) = result.map_or_else(|refusal| refusal, |word| (0, word));
-    Answer {
-        number,
-        word,
-        cells: [0; 15],
-        count: 0,
-    }
-}
-
 /// The deepest entry at or above both.
 #[inline(never)]
 pub fn nearest_common_ancestor(table: &[u32], u: u32, v: u32) -> Answer {
-    answer(shared(table, u, v).map(|r| r.0))
+    Reader::new(table).answer(shared(table, u, v).map(|r| r.0))
 }
 
 /// The climbs between two entries through it.
 #[inline(never)]
 pub fn distance(table: &[u32], u: u32, v: u32) -> Answer {
-    answer(shared(table, u, v).map(|r| r.1))
+    Reader::new(table).answer(shared(table, u, v).map(|r| r.1))
 }

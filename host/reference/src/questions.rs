@@ -218,14 +218,18 @@ pub fn rating(table: &[u32], v: u32, d: u32) -> Answer {
     r.answer(result)
 }
 
+/// 7 with the first of two that is no entry.
+pub(crate) fn both_known(s: Sections, u: u32, v: u32) -> Result<(), Refusal> {
+    match [u, v].into_iter().find(|&entry| entry as usize >= s.n) {
+        Some(entry) => Err((7, entry)),
+        None => Ok(()),
+    }
+}
+
 /// Whether u is at or above v, with u and v known.
 fn relate(r: &mut Reader, u: u32, v: u32) -> Result<(Sections, bool), Refusal> {
     let s = r.open()?;
-    for entry in [u, v] {
-        if entry as usize >= s.n {
-            return Err((7, entry));
-        }
-    }
+    both_known(s, u, v)?;
     let start = r.read(s.pre() + u as usize) as u64;
     let size = r.read(s.size() + u as usize) as u64;
     let place = r.read(s.pre() + v as usize) as u64;

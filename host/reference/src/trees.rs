@@ -34,6 +34,12 @@ pub fn make(kind: usize, n: usize, seed: &mut u64, permuted: bool) -> Vec<u32> {
     if !permuted {
         return parents;
     }
+    permute(&parents, seed)
+}
+
+/// The same tree with its numbers permuted.
+pub fn permute(parents: &[u32], seed: &mut u64) -> Vec<u32> {
+    let n = parents.len();
     let mut name: Vec<u32> = (0..n as u32).collect();
     for i in (1..n).rev() {
         name.swap(i, below(seed, i + 1) as usize);
@@ -43,6 +49,16 @@ pub fn make(kind: usize, n: usize, seed: &mut u64, permuted: bool) -> Vec<u32> {
         list[name[i] as usize] = if p == TOP { TOP } else { name[p as usize] };
     }
     list
+}
+
+/// A chain of so many entries, and below its last two chains that take the others by turns.
+pub fn fork(stem: usize, n: usize) -> Vec<u32> {
+    let parent = |i: usize| match i {
+        0 => TOP,
+        i if i < stem => i as u32 - 1,
+        i => i.saturating_sub(2).max(stem - 1) as u32,
+    };
+    (0..n).map(parent).collect()
 }
 
 fn parent(kind: usize, i: usize, n: usize, seed: &mut u64) -> u32 {

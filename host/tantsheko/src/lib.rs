@@ -1,6 +1,6 @@
 //! The proved class tree for Rust: a table is prepared from a parent list, and answers which class an entry has at
-//! each depth, with the cells that were read, which class two entries share, and what a sum insured costs in its class, by a list of rates or by a sheet
-//! of bands. No precondition is left to the caller.
+//! each depth, with the cells that were read, which class two entries share, and what a sum insured costs in its class, by
+//! a list of rates or by a sheet of bands. No precondition is left to the caller.
 
 pub mod bands;
 mod ffi;

@@ -6,7 +6,7 @@ mod folder;
 
 use beside::{same_answer as same, TOP};
 use folder::Folder;
-use reference::trees::{below, make as tree, next};
+use reference::trees::{self, below, make as tree, next};
 use tantsheko::{Refusal, Table};
 
 fn climb(parents: &[u32], v: u32) -> Vec<u32> {
@@ -84,22 +84,27 @@ fn pairs_of_larger_trees() {
     }
 }
 
-/// Two chains from the top: the longest search there is.
+/// Two chains from the top, where every try is too low; and two short ones below a long stem, where the search takes its most
+/// tries, as all but the first three are too high.
 #[test]
-fn the_largest_fork() {
+fn the_largest_forks() {
     let n = 1 << 20;
-    let parents: Vec<u32> = (0..n)
-        .map(|i: u32| if i == 0 { TOP } else { i.saturating_sub(2) })
-        .collect();
-    let table = Table::prepare(&parents).unwrap();
     let mut seed = 23;
-    for _ in 0..20_000 {
-        let (u, v) = (below(&mut seed, n as usize), below(&mut seed, n as usize));
-        let class = if u % 2 == v % 2 { u.min(v) } else { 0 };
-        let depth = |v: u32| v.div_ceil(2);
-        let climbs = depth(u) + depth(v) - 2 * depth(class);
-        assert_eq!(table.nearest_common_ancestor(u, v).result(), Ok(class));
-        assert_eq!(table.distance(u, v).result(), Ok(climbs));
+    for stem in [1, 500_000, n - 44] {
+        let table = Table::prepare(&trees::fork(stem, n)).unwrap();
+        let depth = |v: u32| table.words()[4 + v as usize];
+        let stem = stem as u32;
+        for k in 0..20_000 {
+            let (u, v) = match k {
+                0 => (n as u32 - 1, n as u32 - 2),
+                _ => (below(&mut seed, n), below(&mut seed, n)),
+            };
+            let branches = u >= stem && v >= stem && u % 2 != v % 2;
+            let class = if branches { stem - 1 } else { u.min(v) };
+            let climbs = depth(u) + depth(v) - 2 * depth(class);
+            assert_eq!(table.nearest_common_ancestor(u, v).result(), Ok(class));
+            assert_eq!(table.distance(u, v).result(), Ok(climbs));
+        }
     }
 }
 
@@ -129,25 +134,27 @@ fn damaged_tables() {
     }
 }
 
-/// On a table of any contents: 9 where ancestry gives 9 for its own step 1, then 7 with the first argument, else 0 or 9, and a
-/// class is an entry.
+/// On a table of any contents: both answers by hand, word for word; 9 and 7 as ancestry gives them, else 0 within a bound, or 9.
 fn refuses_first(table: Table, seed: &mut u64) {
     let n = table.entries();
     for _ in 0..20 {
         let v = below(seed, n as usize % 100 + 2);
         let u = below(seed, n as usize % 100 + 2);
         let first = table.ancestry(u, v).result();
-        let answers = [table.nearest_common_ancestor(u, v), table.distance(u, v)];
-        for answer in answers {
+        let class = table.nearest_common_ancestor(u, v);
+        let climbs = table.distance(u, v);
+        same(
+            class,
+            reference::nearest_common_ancestor(table.words(), u, v),
+        );
+        same(climbs, reference::distance(table.words(), u, v));
+        for (answer, bound) in [(class, u64::from(n)), (climbs, 2 * u64::from(n))] {
             assert!(answer.cells().is_empty() && answer.places() == &[0; 15]);
             match (first, answer.result()) {
                 (Err(refusal), given) => assert_eq!(given, Err(refusal)),
                 (Ok(_), Err(refusal)) => assert_eq!(refusal, Refusal::Broken),
-                (Ok(_), Ok(_)) => {}
+                (Ok(_), Ok(word)) => assert!(u64::from(word) < bound),
             }
-        }
-        if let Ok(class) = answers[0].result() {
-            assert!(class < n);
         }
     }
 }

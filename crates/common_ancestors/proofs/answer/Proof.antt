@@ -1,8 +1,11 @@
 -- `answer` meets its contract. Assumes nothing.
 use mathlib.Core.Logic.{inl, inr}
-use mathlib.Core.Path.{refl, ap}
+use mathlib.Core.Path.{refl}
+use mathlib.Core.List.{List}
+use Prim.Native.Nat.{ℕ}
 use borrow.Author.Needs.{needs}
 use Rattle.base.specs.Numbers.{accepted}
+use Rattle.table.specs.Preparing.{Prepared}
 use Rattle.common_ancestors.specs.Promises.{said}
 use Rattle.common_ancestors.specs.Parts.{bound, chosen}
 use Rattle.common_ancestors.proofs.Replies.{refused-enters, refused-right, refused-known, passed-enters, table-of, enters-numbers, answered-right, chosen-bound, chosen-answered}
@@ -36,14 +39,12 @@ returns-2 c =
     let step = passed .before .before .admitted in
     let sought = passed .before .before .before .before .args .sought in
     let o = said (step .result) in
-    let enters = passed-enters _ _ _ o (step .ensures .0) (passed .if1 .left) (bound sought) (said (c .broken .result)) (inr (ap said (c .broken .ensures))) in (
+    let enters = passed-enters _ _ _ o (step .ensures .0) (passed .if1 .left) (bound sought) (said (c .broken .result)) (inr (c .broken .ensures)) in
+    let found : (ps : List ℕ) → Prepared ps _ → ⊥ = λ ps p. c .before .if2 .taken (call .nearest .ensures .1 .1 ps (table-of _ _ _ o (step .ensures .0) (passed .if1 .left) ps p .0) .found) in (
       enters,
       (
         enters-numbers (bound sought) _ _ _ _ enters,
-        (
-          λ ps p. absurd (c .before .if2 .taken (call .nearest .ensures .1 .1 ps (table-of _ _ _ o (step .ensures .0) (passed .if1 .left) ps p .0) .found)),
-          λ ps p hu hv. absurd (c .before .if2 .taken (call .nearest .ensures .1 .1 ps (table-of _ _ _ o (step .ensures .0) (passed .if1 .left) ps p .0) .found)),
-        ),
+        (λ ps p. absurd (found ps p), λ ps p hu hv. absurd (found ps p)),
       ),
     )
 

@@ -9,12 +9,12 @@ use Rattle.common_ancestors.proofs.answer_words.Tie as tie
 returns : tie.Need-returns
 returns c =
     let reply = c .before .before .answer in
-    let (enters, (numbers, (right, known))) = reply .ensures in
+    let (any, (gives, (right, known))) = reply .ensures in
     record {
       answer = said (reply .result);
       written = c .words .ensures ∙ ap (λ cells. answerWords (record { number = reply .result .number; word = reply .result .word; cells = cells })) (c .before .new .ensures);
-      enters = enters;
-      numbers = numbers;
+      any = any;
+      gives = gives;
       right = right;
       known = known;
     }

@@ -11,7 +11,7 @@ abbrev Inv-loop : tie.InvT-loop
 Inv-loop parents₀ table₀ space₀ strings total₀ line₀ parents table space total line = (length parents ≡ length parents₀) × (length table ≡ length table₀) × (length space ≡ length space₀)
 
 abbrev μ-loop : tie.MeasureT-loop
-μ-loop parents₀ table₀ space₀ strings total₀ line₀ parents table space total line = 15 - line
+μ-loop parents₀ table₀ space₀ strings total₀ line₀ parents table space total line = 16 - line
 
 pub run-spec : {M : Type 1} → statement M
 run-spec =

@@ -23,7 +23,7 @@ first-above-requires c κs =
     let ok = c .before in
     let pre = ok .before .before .before .before .before .pre in
     let s = shallow _ _ _ _ _ (c .by-depth .result) (c .by-depth .ensures) (pre .1) (pre .2) (ok .before .if1 .left) (ok .if2 .left) in
-    (pre .0, s .upper, s .depth)
+    (pre .0, s .first, s .depth)
 
 returns-3 : tie.Need-returns-3
 returns-3 c =

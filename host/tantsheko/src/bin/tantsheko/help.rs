@@ -54,8 +54,8 @@ It lists no cells: the metering clause does not cover it.",
 A class is as `class` gives it; a rating is the class at that level, or the entry
 itself where it is less deep; shared and distance are the two results of `shared`.
 Each answer is the question with `,refusal,result,cells` behind it: refusal is 0 if
-there is a result, else the result is -; cells is how many cells were read, 0 for
-shared and distance.
+there is a result, else the result is -; cells is how many cells were read: shared and
+distance list none, and have 0.
 A line of another form ends the stream, after the answers to the lines before it.",
     ),
     (
