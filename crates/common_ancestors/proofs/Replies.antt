@@ -1,7 +1,7 @@
 -- From what turns a question away, and from what is found, to its promises. Assumes nothing.
 use mathlib.Core.Path.{_≡_, refl, sym, ap, _∙_}
 use mathlib.Core.Logic.{_⊎_, inl, inr}
-use mathlib.Core.List.{List, [], _∷_}
+use mathlib.Core.List.{List}
 use mathlib.Core.Bool.{Bool, true, false, cond}
 use mathlib.Core.Option.{Option, Option·elim}
 use Prim.Native.Nat.{ℕ, _*_, _≤_, _<_}
