@@ -3,7 +3,7 @@
 #include "tantsheko.h"
 #include <stdio.h>
 
-enum { ENTRIES = 8, WORDS = 4 + 11 * ENTRIES + 21 * (ENTRIES / 6) };
+enum { ENTRIES = 8, WORDS = 4 + 11 * ENTRIES + 21 * (ENTRIES / 8) };
 
 static void print(uint32_t d, const tantsheko_answer *a) {
     printf("7,%u,%u,%u:", (unsigned)d, (unsigned)a->number, (unsigned)a->word);

@@ -3,7 +3,7 @@
 #include <inttypes.h>
 #include <stdio.h>
 
-enum { ENTRIES = 8, WORDS = 4 + 11 * ENTRIES + 21 * (ENTRIES / 6), RATES = 3, SUMS = 4 };
+enum { ENTRIES = 8, WORDS = 4 + 11 * ENTRIES + 21 * (ENTRIES / 8), RATES = 3, SUMS = 4 };
 
 int main(void) {
     uint32_t parents[ENTRIES], table[WORDS], space[6 * ENTRIES];

@@ -3,7 +3,7 @@
 #include "tantsheko.h"
 #include <stdio.h>
 
-enum { ENTRIES = 6, WORDS = 4 + 11 * ENTRIES + 21 * (ENTRIES / 6) };
+enum { ENTRIES = 6, WORDS = 4 + 11 * ENTRIES + 21 * (ENTRIES / 8) };
 
 int main(void) {
     const uint32_t parents[ENTRIES] = {TANTSHEKO_TOP, 0, 0, 1, 1, 3};

@@ -5,7 +5,7 @@
 #include <stdio.h>
 #include <string.h>
 
-enum { ENTRIES = 5, WORDS = 4 + 11 * ENTRIES + 21 * (ENTRIES / 6), SHEETS = 4, SUMS = 5 };
+enum { ENTRIES = 5, WORDS = 4 + 11 * ENTRIES + 21 * (ENTRIES / 8), SHEETS = 4, SUMS = 5 };
 
 int main(void) {
     const uint32_t parents[ENTRIES] = {TANTSHEKO_TOP, 0, 0, 1, 2};

@@ -27,7 +27,7 @@ enum tantsheko_number {
     TANTSHEKO_LOOP = 6,        /* a climb never meets the top: the lowest such entry */
     TANTSHEKO_UNKNOWN = 7,     /* an argument is no entry: the first such argument */
     TANTSHEKO_TOO_DEEP = 8,    /* deeper than the entry: the entry. Level lookup and climb alone give it */
-    TANTSHEKO_BROKEN = 9,      /* the table is not one that the question can be answered from: 0 */
+    TANTSHEKO_BROKEN = 9,      /* the table is not one that the question can be answered from, as one of an older library: 0 */
     TANTSHEKO_NOT_ABOVE = 10,  /* u is not strictly above v: u */
     TANTSHEKO_BAD_RATE = 11,   /* the class's rate is over 1,000,000, or past the list's end: 0 */
     TANTSHEKO_BAD_SUM = 12,    /* the sum is outside -2,000,000,000 to 2,000,000,000: 0 */

@@ -1,7 +1,7 @@
 -- The measures of a prepared table. A change of the group limit changes this module with its constants in `src/limits.rt`, and in `shapes` the cells of the shape
 -- table and the counts by which a shape is numbered. Assumes nothing.
 use mathlib.Core.List.{List}
-use Prim.Native.Nat.{ℕ, _+_, _*_, _/_, _≤_}
+use Prim.Native.Nat.{ℕ, _+_, _-_, _*_, _/_, _≤_}
 use lib.ListN.{length}
 
 -- the most entries of a parent list
@@ -14,18 +14,22 @@ topMark = 4294967295
 
 -- the most entries of a group: the size up to which an entry is micro
 abbrev pub groupLimit : ℕ
-groupLimit = 5
+groupLimit = 7
 
 -- the shapes of up to `groupLimit` entries
 abbrev pub shapeCount : ℕ
-shapeCount = 23
+shapeCount = 197
 
--- cell 0 for n entries, and the number of entries that a cell 0 stands for
+-- what cell 0 holds beside the number of entries; an older table's cell 0 has the number alone
+abbrev pub headerMark : ℕ
+headerMark = 1073741824
+
+-- cell 0 for n entries, and the number of entries that a cell 0 stands for: 0 where it is below the mark
 abbrev pub headerOf : ℕ → ℕ
-headerOf n = n
+headerOf n = n + headerMark
 
 abbrev pub entriesOf : ℕ → ℕ
-entriesOf word = word
+entriesOf word = word - headerMark
 
 -- the records that JUMPS has room for, and the words of one
 abbrev pub jumpRoom : ℕ → ℕ

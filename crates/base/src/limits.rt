@@ -12,15 +12,18 @@ pub const MOST_ENTRIES: u32 = 1048576;
 pub const TOP_MARK: u32 = 4294967295;
 
 // The most entries of a group: the size up to which an entry is micro.
-pub const GROUP_LIMIT: u32 = 5;
+pub const GROUP_LIMIT: u32 = 7;
 
 // The shapes of up to so many entries.
-pub const SHAPE_COUNT: u32 = 23;
+pub const SHAPE_COUNT: u32 = 197;
 
 // KIND of a micro entry is at least this, and a group's number counts so much of it.
 pub const MICRO_MARK: u32 = 2147483648;
 
 pub const LOCAL_SPAN: u32 = 8;
+
+// What cell 0 holds beside the number of entries.
+pub const HEADER_MARK: u32 = 1073741824;
 
 // The words of a jump record.
 pub const RECORD_WORDS: u32 = 21;
@@ -56,17 +59,21 @@ pub const GROUP_WORDS: u32 = 3;
 // The regions of n words of the working space.
 pub const REGIONS: u32 = 6;
 
-// Cell 0 for n entries, and the number of entries that a cell 0 stands for.
-pub fn header_of(n: u32) -> u32
+// Cell 0 for n entries, which is a word for every n that a table can have.
+pub fn header_of(n: u32) -> u64
     ensures { λ r. ⌜ r ≡ headerOf n ⌝ }
 {
-    n
+    n as u64 + HEADER_MARK as u64
 }
 
+// The number of entries that a cell 0 stands for, 0 where it is below the mark.
 pub fn entries_of(word: u32) -> u32
     ensures { λ r. ⌜ r ≡ entriesOf word ⌝ }
 {
-    word
+    if word < HEADER_MARK {
+        return 0;
+    }
+    word - HEADER_MARK
 }
 
 // The records that JUMPS has room for.

@@ -1,5 +1,5 @@
 -- On a prepared table each question answers what it means: the climb from parent to parent. Assumes nothing.
-use mathlib.Core.Path.{_≡_, sym, ap, _∙_}
+use mathlib.Core.Path.{_≡_, sym, ap, subst⁻¹, _∙_}
 use mathlib.Core.Logic.{_↔_}
 use mathlib.Core.List.{List}
 use mathlib.Core.Bool.{Bool, true, false, cond}
@@ -12,7 +12,7 @@ use lib.Dec.{leb}
 use borrow.Author.Tests.{le-leb, lt-leb}
 use Rattle.base.specs.Numbers.{Outcome, accepted, unknown, tooDeep, notAbove}
 use Rattle.base.specs.Lists.{first, has}
-use Rattle.base.specs.Limits.{entriesOf, tableWords, depthCell, preCell, sizeCell}
+use Rattle.base.specs.Limits.{headerOf, entriesOf, tableWords, depthCell, preCell, sizeCell}
 use Rattle.base.proofs.Filters.{times-has, has-not}
 use Rattle.tree.specs.Parents.{up, climb, depth, children}
 use Rattle.tree.specs.Forest.{size, position}
@@ -23,6 +23,7 @@ use Rattle.tree.proofs.Meanings.{class-unknown, rating-unknown, rating-of-small
 use Rattle.tree.proofs.Intervals.{depth-less, interval}
 use Rattle.tree.proofs.Ancestry.{on-climb, towards, towards-none, strictly-deeper}
 use Rattle.table.specs.Preparing.{Prepared}
+use Rattle.table.proofs.Acceptance.{header-inverse}
 use Rattle.answers.specs.Reading.{Reading, done, read, ifLe, ifLt, ifEq, wordAt, run}
 use Rattle.answers.specs.Answers.{answerTo, outcome}
 use Rattle.answers.specs.Promises.{depthWord}
@@ -40,10 +41,11 @@ module _ (ps t : List ℕ) (p : Prepared ps t) where
       let n = length ps in
       let room = p .long in
       run-not-lt t o (length t) 4 _ _ (omega arith)
-      (run-read t o 0 n _ (count-word ps t p)
+      (run-read t o 0 (headerOf n) _ (count-word ps t p)
+      (subst⁻¹ (λ m. run t (afterCount (length t) m next) ≡ o) (header-inverse n)
       (run-not-eq t o n 0 _ _ (λ z. omega (arith, many ps t p))
       (run-not-lt t o 1048576 n _ _ (few ps t p)
-      (run-not-lt t o (length t) (tableWords n) _ _ room h))))
+      (run-not-lt t o (length t) (tableWords n) _ _ room h)))))
 
   -- 7 where v is no entry
   pub known-run : (v : ℕ) (o : Outcome) (next : Reading) → (v < length ps → run t next ≡ o) → run t (ifLe (length ps) v (done (unknown v)) next) ≡ known ps v o
@@ -81,7 +83,7 @@ module _ (ps t : List ℕ) (p : Prepared ps t) where
 
   -- the word that `Smaller` speaks of is the entry's depth
   pub depth-stated : (v : ℕ) → v < length ps → depthWord t v ≡ depth ps v
-  depth-stated v h = ap (λ word. wordAt t (depthCell (entriesOf word) v)) (count-word ps t p) ∙ depth-word ps t p v h
+  depth-stated v h = ap (λ n. wordAt t (depthCell n v)) (ap entriesOf (count-word ps t p) ∙ header-inverse (length ps)) ∙ depth-word ps t p v h
 
   -- rating: the level lookup at the smaller of d and that depth
   pub rating-right : (v d : ℕ) → run t (rating (length t) v d) ≡ ratingOf ps v d

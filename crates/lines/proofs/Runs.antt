@@ -22,6 +22,6 @@ use Rattle.lines.specs.Fields.{parted, value, isNumber, number, tagged, 
 use Rattle.lines.specs.Counter.{replyRow, answerRow, answering, judged, listing, opening, counter}
 
 -- the printed run: the chain of eight with questions (7,1), (7,5), (7,8), (8,0)
-pub printed-run : counter (78 ∷ 44 ∷ 56 ∷ 10 ∷ 80 ∷ 44 ∷ 45 ∷ 10 ∷ 80 ∷ 44 ∷ 48 ∷ 10 ∷ 80 ∷ 44 ∷ 49 ∷ 10 ∷ 80 ∷ 44 ∷ 50 ∷ 10 ∷ 80 ∷ 44 ∷ 51 ∷ 10 ∷ 80 ∷ 44 ∷ 52 ∷ 10 ∷ 80 ∷ 44 ∷ 53 ∷ 10 ∷ 80 ∷ 44 ∷ 54 ∷ 10 ∷ 81 ∷ 44 ∷ 55 ∷ 44 ∷ 49 ∷ 10 ∷ 81 ∷ 44 ∷ 55 ∷ 44 ∷ 53 ∷ 10 ∷ 81 ∷ 44 ∷ 55 ∷ 44 ∷ 56 ∷ 10 ∷ 81 ∷ 44 ∷ 56 ∷ 44 ∷ 48 ∷ 10 ∷ []) ≡ 101 ∷ 110 ∷ 116 ∷ 114 ∷ 121 ∷ 44 ∷ 100 ∷ 101 ∷ 112 ∷ 116 ∷ 104 ∷ 44 ∷ 114 ∷ 101 ∷ 102 ∷ 117 ∷ 115 ∷ 97 ∷ 108 ∷ 44 ∷ 99 ∷ 108 ∷ 97 ∷ 115 ∷ 115 ∷ 44 ∷ 99 ∷ 101 ∷ 108 ∷ 108 ∷ 115 ∷ 10 ∷ 55 ∷ 44 ∷ 49 ∷ 44 ∷ 48 ∷ 44 ∷ 49 ∷ 44 ∷ 49 ∷ 48 ∷ 10 ∷ 55 ∷ 44 ∷ 53 ∷ 44 ∷ 48 ∷ 44 ∷ 53 ∷ 44 ∷ 54 ∷ 10 ∷ 55 ∷ 44 ∷ 56 ∷ 44 ∷ 56 ∷ 44 ∷ 45 ∷ 44 ∷ 50 ∷ 10 ∷ 56 ∷ 44 ∷ 48 ∷ 44 ∷ 55 ∷ 44 ∷ 45 ∷ 44 ∷ 49 ∷ 10 ∷ []
+pub printed-run : counter (78 ∷ 44 ∷ 56 ∷ 10 ∷ 80 ∷ 44 ∷ 45 ∷ 10 ∷ 80 ∷ 44 ∷ 48 ∷ 10 ∷ 80 ∷ 44 ∷ 49 ∷ 10 ∷ 80 ∷ 44 ∷ 50 ∷ 10 ∷ 80 ∷ 44 ∷ 51 ∷ 10 ∷ 80 ∷ 44 ∷ 52 ∷ 10 ∷ 80 ∷ 44 ∷ 53 ∷ 10 ∷ 80 ∷ 44 ∷ 54 ∷ 10 ∷ 81 ∷ 44 ∷ 55 ∷ 44 ∷ 49 ∷ 10 ∷ 81 ∷ 44 ∷ 55 ∷ 44 ∷ 53 ∷ 10 ∷ 81 ∷ 44 ∷ 55 ∷ 44 ∷ 56 ∷ 10 ∷ 81 ∷ 44 ∷ 56 ∷ 44 ∷ 48 ∷ 10 ∷ []) ≡ 101 ∷ 110 ∷ 116 ∷ 114 ∷ 121 ∷ 44 ∷ 100 ∷ 101 ∷ 112 ∷ 116 ∷ 104 ∷ 44 ∷ 114 ∷ 101 ∷ 102 ∷ 117 ∷ 115 ∷ 97 ∷ 108 ∷ 44 ∷ 99 ∷ 108 ∷ 97 ∷ 115 ∷ 115 ∷ 44 ∷ 99 ∷ 101 ∷ 108 ∷ 108 ∷ 115 ∷ 10 ∷ 55 ∷ 44 ∷ 49 ∷ 44 ∷ 48 ∷ 44 ∷ 49 ∷ 44 ∷ 54 ∷ 10 ∷ 55 ∷ 44 ∷ 53 ∷ 44 ∷ 48 ∷ 44 ∷ 53 ∷ 44 ∷ 54 ∷ 10 ∷ 55 ∷ 44 ∷ 56 ∷ 44 ∷ 56 ∷ 44 ∷ 45 ∷ 44 ∷ 50 ∷ 10 ∷ 56 ∷ 44 ∷ 48 ∷ 44 ∷ 55 ∷ 44 ∷ 45 ∷ 44 ∷ 49 ∷ 10 ∷ []
 unfolding flatten flatMap Option·elim bind orElse each keep first index every some? places padded entry parent climbUp climbWithin depth plant grow preorder forestSize forestHeight tallest spine pathTop isStray meetsTop listFault walkRound shapeNumber parentList reached localDepth nearest ladders ownPath ladPos micro groupRoot groups groupWords jumpNode jumpRecord microKind macroKind kind header entrySections laidSections tableOf countFault tableFault spaceFault callFault refusal preparing run trace ifLe ifLt ifEq ifNone listed answerTo exponent afterClass afterCount afterLadpos afterAncestor readAncestor afterJumpDepth fromJump afterParentKind afterParent afterPosition inGroup afterShape fromGroup afterKind ancestorAt afterDepth fromEntry level opened digits row parted value isNumber number tagged single countOf parentField parentOf asked questionOf replyRow answerRow answering judged listing opening counter
 printed-run = refl

@@ -7,7 +7,7 @@ use lib.Dec.{eqb, leb}
 -- the steps of a string, the last first, m at most: whether each is up
 unfoldable pub stepsBack : ℕ → ℕ → List Bool
 stepsBack zero string = []
-stepsBack (suc m) string = cond (leb string 1) [] (eqb (string % 2) 1 ∷ stepsBack m (string / 2))
+stepsBack (suc m) string = let before = stepsBack m (string / 2) in cond (leb string 1) [] (eqb (string % 2) 1 ∷ before)
 
 -- each down ends an up, and none is left, where so many ups are open
 unfoldable pub closes : List Bool → ℕ → Bool

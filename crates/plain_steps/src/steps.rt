@@ -11,6 +11,9 @@ use samples::words::wide;
 // From here on a KIND is that of a micro entry.
 const MICRO: usize = 2147483648;
 
+// Cell 0 of no entries.
+const HEADER: usize = 1073741824;
+
 // Step 1: cell 0, if there are 4 words.
 pub(crate) fn opened(table: &[u32], walk: Walk) -> Walk
     ensures { λ r. ⌜ r .count ≤ walk .count + 1 ⌝ }
@@ -28,11 +31,15 @@ pub fn entries(table: &[u32]) -> usize
     if table.len() < 4 {
         return 0;
     }
-    let n = get(table, 0);
+    let word = get(table, 0);
+    if word < HEADER {
+        return 0;
+    }
+    let n = word - HEADER;
     if 1048576 < n {
         return 0;
     }
-    if table.len() < 4 + 11 * n + 21 * (n / 6) {
+    if table.len() < 4 + 11 * n + 21 * (n / 8) {
         return 0;
     }
     n
@@ -61,7 +68,7 @@ fn jump(table: &[u32], n: usize, d: usize, walk: Walk) -> Walk
     ensures { λ r. ⌜ r .count ≤ walk .count + 4 ⌝ }
 {
     let j = walk.word;
-    if n / 6 <= j {
+    if n / 8 <= j {
         return walk.broken();
     }
     let first = 4 + 11 * n + 21 * j;
@@ -130,7 +137,7 @@ fn group(table: &[u32], strings: &[u32], n: usize, depth: usize, d: usize, walk:
     let first = 4 + 8 * n + 3 * g;
     let shaped = walk.read(table, first + 1);
     let shape = shaped.word;
-    if 23 <= shape {
+    if 197 <= shape {
         return shaped.broken();
     }
     let string = get(strings, shape);

@@ -11,7 +11,7 @@ use samples::words::put;
 
 // Whether a string goes round a group: from its last step back, each down ends an up, and none is left.
 fn goes_round(string: usize) -> bool
-    requires { ⌜ string < 512 ⌝ }
+    requires { ⌜ string < 8192 ⌝ }
     ensures { λ r. ⌜ r ≡ goesRound string ⌝ }
 {
     let mut open = 0;
@@ -32,7 +32,7 @@ fn goes_round(string: usize) -> bool
 
 // Puts a string at a place if it goes round a group. Answers the next place.
 fn noted(string: usize, at: usize, all: &mut [u32]) -> usize
-    requires { ⌜ (string < 512) × (at < 512) ⌝ }
+    requires { ⌜ (string < 8192) × (at < 8192) ⌝ }
     ensures with { λ r. ⌜ (goesRound string ≡ true → (now (all .exit) ≡ set (now (all .entry)) at string) × (r ≡ at + 1)) ⌝ }
     ensures without { λ r. ⌜ (goesRound string ≡ false → (now (all .exit) ≡ now (all .entry)) × (r ≡ at)) ⌝ }
 {
@@ -43,14 +43,14 @@ fn noted(string: usize, at: usize, all: &mut [u32]) -> usize
     add(at, 1)
 }
 
-// The strings of the 23 shapes of up to five entries, in the order of the shapes' numbers.
-pub fn shape_strings() -> [u32; 23]
-    ensures { λ r. ⌜ r ≡ strings 511 ⌝ }
+// The strings of the 197 shapes of up to seven entries, in the order of the shapes' numbers.
+pub fn shape_strings() -> [u32; 197]
+    ensures { λ r. ⌜ r ≡ strings 8191 ⌝ }
 {
-    let mut all = [0u32; 23];
+    let mut all = [0u32; 197];
     let mut at = 0;
     let mut string = 1;
-    while string < 512 {
+    while string < 8192 {
         at = noted(string, at, &mut all);
         string += 1;
     }

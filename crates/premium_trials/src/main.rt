@@ -132,7 +132,7 @@ fn run(
 
 fn main() {
     let mut parents = [0u32; 512];
-    let mut table = [0u32; 7424];
+    let mut table = [0u32; 6983];
     let mut space = [0u32; 3075];
     let mut rates = [0u32; 512];
     let strings = shape_strings();

@@ -1,18 +1,15 @@
 -- The working space while the table is filled: what its regions hold, and what a store leaves. Assumes nothing.
-use mathlib.Core.Path.{_≡_, refl, ap, _∙_}
+use mathlib.Core.Path.{_≡_, ap, _∙_}
 use mathlib.Core.Logic.{_⊎_, inl, inr, ⊎-elim}
 use mathlib.Core.List.{List, [], _∷_}
-use Prim.Native.Nat.{ℕ, _+_, _*_, _-_, _≤_, _<_}
+use Prim.Native.Nat.{ℕ, _+_, _*_, _≤_, _<_}
 use native.Mathlib.Omega.{arith}
-use borrow.Rule.Slice.PartMut.{midOf, putMid}
 use lib.ListN.{length, getD, set}
 use Rattle.base.specs.Lists.{view, put}
-use Rattle.base.proofs.Puts.{lent-back, put-length, put-view, lent, Apart, stays, set-put}
+use Rattle.base.proofs.Puts.{put-length, Apart, stays, set-put}
 use Rattle.base.proofs.Views.{view-at}
-use Rattle.tree.specs.Parents.{depth}
-use Rattle.prepare.specs.Arrays.{entryAt, depthsOf, abovesOf}
+use Rattle.prepare.specs.Arrays.{entryAt}
 use Rattle.prepare.specs.Stages.{Walked, Parented, Pathed}
-use Rattle.prepare.proofs.Preorder.{array-length}
 
 module _ {ps space : List ℕ} (w : Walked ps space) where
   -- region 0
@@ -47,24 +44,11 @@ module _ {ps space : List ℕ} (a : ℕ) (x : List ℕ) (low : 2 * length ps ≤
 
 -- one word
 module _ {ps space : List ℕ} (k x : ℕ) (low : 2 * length ps ≤ k) where
+  pub walked-set : k < 6 * length ps → Walked ps space → Walked ps (set space k x)
+  walked-set h w = rw (set-put space k x (omega (arith, w .room))) (walked-put k (x ∷ []) low (omega arith) w)
+
   pub parented-set : k < 6 * length ps → (k < 3 * length ps) ⊎ (4 * length ps ≤ k) → Parented ps space → Parented ps (set space k x)
   parented-set h o d = rw (set-put space k x (omega (arith, d .walked .room))) (parented-put k (x ∷ []) low (omega arith) (⊎-elim (λ b. inr (omega arith)) (λ b. inl (omega arith)) o) d)
 
   pub pathed-set : k < 3 * length ps → Pathed ps space → Pathed ps (set space k x)
   pathed-set h p = rw (set-put space k x (omega (arith, p .parented .walked .room))) (pathed-put k (x ∷ []) low (omega arith) (omega arith) p)
-
--- region 3, lent and filled, and the depths, carried to the cells of DEPTH
-module _ {ps space : List ℕ} (w : Walked ps space) where
-  abbrev n : ℕ
-  n = length ps
-
-  pub parented-of : (x : List ℕ) → x ≡ abovesOf ps → Parented ps (putMid (3 * n) (4 * n - 3 * n) space x)
-  parented-of x e =
-      let wide = array-length (w .one) _ x e in
-      rw (lent-back (3 * n) (4 * n) space x x refl (omega arith))
-      (record { walked = walked-put (3 * n) x (omega arith) (omega arith) w; aboves = put-view space (3 * n) x (omega (arith, w .room)) n wide ∙ e })
-
-  pub depths-of : (table new : List ℕ) → 4 + n ≤ length table → new ≡ put table 4 (view n n space) → midOf 4 (4 + n - 4) new ≡ depthsOf ps
-  depths-of table new room e =
-      let wide = array-length (w .one) (depth ps) (depthsOf ps) refl in
-      lent 4 (4 + n) n new _ (omega arith) (ap (view 4 n) (e ∙ ap (put table 4) (w .depths)) ∙ put-view table 4 (depthsOf ps) (omega arith) n wide)

@@ -1,4 +1,4 @@
 -- ABOVE, SIZE, HEIGHT and LONG by position.
-pub mod Climb
+pub mod RootPaths
 pub mod Subforests
 pub mod Turns

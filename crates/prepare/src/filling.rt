@@ -16,7 +16,7 @@ pub(crate) fn fill_table(parents: &[u32], table: &mut [u32], space: &mut [u32])
     requires { ⌜ Walked (now parents) (now space) × (length (now table) ≡ tableWords (length (now parents))) ⌝ }
     ensures { λ _. ⌜ now (table .exit) ≡ tableOf (now (parents .entry)) ⌝ }
 {
-    measure(parents, table, space);
+    measure(parents, space);
     let counts = family_sections(parents, table, space);
     let paths = path_sections(parents, table, space);
     order_sections(parents, table, space);

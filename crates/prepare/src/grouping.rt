@@ -13,7 +13,7 @@ use base::limits::GROUP_LIMIT;
 use base::limits::TOP_MARK;
 use base::set_all;
 
-// GROUPS: each group's position, shape and parent, in preorder, and zeros behind. A position of size 5 or less, past the groups before it, starts the next.
+// GROUPS: each group's position, shape and parent, in preorder, and zeros behind. A position of size 7 or less, past the groups before it, starts the next.
 pub(crate) fn groups(
     parents: &[u32],
     order: &[u32],

@@ -16,7 +16,7 @@ use base::limits::MICRO_MARK;
 use base::powers::LargestPower;
 use base::powers::exponent;
 
-// The jump entries, in preorder: of the entries of size over 5 that lead to one jump entry, that entry stands last.
+// The jump entries, in preorder: of the entries of size over 7 that lead to one jump entry, that entry stands last.
 pub(crate) fn jump_nodes(parents: &[u32], order: &[u32], kind: &[u32], cells: &mut [u32])
     requires { ⌜ OneTree (now parents) × (now order ≡ orderOf (now parents)) × (now kind ≡ kindsOf (now parents)) × (length (now cells) ≡ length (now parents)) ⌝ }
     ensures { λ _. ⌜ take (length (jumpNodes groupLimit (now (parents .entry)))) (now (cells .exit)) ≡ jumpNodes groupLimit (now (parents .entry)) ⌝ }

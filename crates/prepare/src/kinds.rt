@@ -17,7 +17,7 @@ pub struct Counts {
     pub jumps: u32,
 }
 
-// KIND, each word in its entry's cell. A position of size 5 or less starts a group just where the last one has ended. The last position of a size over 5 is a
+// KIND, each word in its entry's cell. A position of size 7 or less starts a group just where the last one has ended. The last position of a size over 7 is a
 // jump entry's just where the next such position lies past its family.
 pub(crate) fn kinds(parents: &[u32], order: &[u32], size: &[u32], cells: &mut [u32]) -> Counts
     requires { ⌜ OneTree (now parents) × (now order ≡ orderOf (now parents)) × (now size ≡ sizesOf (now parents)) × (length (now cells) ≡ length (now size)) ⌝ }

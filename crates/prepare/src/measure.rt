@@ -1,12 +1,12 @@
 // ABOVE, SIZE, HEIGHT and LONG by position.
 ghost use mathlib.Core.Path.{_≡_};
-ghost use Prim.Native.Nat.{ℕ, _+_, _*_, _≤_, _<_};
+ghost use Prim.Native.Nat.{_+_, _*_, _≤_, _<_};
 ghost use lib.ListN.{length, getD, set, replicate};
 ghost use Rattle.base.specs.Limits.{mostEntries, spaceWords, topMark};
 ghost use Rattle.base.specs.Lists.{put};
-ghost use Rattle.prepare.specs.Arrays.{OneTree, entryAt, abovePosition, depthsOf, abovesOf};
-ghost use Rattle.prepare.specs.Stages.{Parented, Measured};
+ghost use Rattle.prepare.specs.Stages.{Walked, Parented, Measured};
 use crate::places::ABOVES;
+use crate::places::CLIMB;
 use crate::places::HEIGHTS;
 use crate::places::LONGS;
 use crate::places::REGIONS;
@@ -15,31 +15,23 @@ use base::Position;
 use base::limits::TOP_MARK;
 use base::set_all;
 
-// ABOVE: the position of the entry above, or the top mark.
-pub(crate) fn above(parents: &[u32], depth: &[u32], cells: &mut [u32])
-    requires { ⌜ OneTree (now parents) × (now depth ≡ depthsOf (now parents)) × (length (now cells) ≡ length (now depth)) ⌝ }
-    ensures { λ _. ⌜ now (cells .exit) ≡ abovesOf (now (parents .entry)) ⌝ }
+// ABOVE by position into region 3 of the working space: the position of the entry above, or the top mark. Region 4 holds the positions on the climb from the
+// entry before, by depth, so that none is searched for.
+pub(crate) fn above(parents: &[u32], space: &mut [u32])
+    requires { ⌜ Walked (now parents) (now space) ⌝ }
+    ensures { λ _. ⌜ Parented (now (parents .entry)) (now (space .exit)) ⌝ }
 {
-    cells[0] = TOP_MARK;
+    let n = parents.len();
+    space[ABOVES * n] = TOP_MARK;
+    space[CLIMB * n] = 0;
     let mut at = Position(1);
-    while (at.0 as usize) < depth.len() {
-        let over = higher(parents, depth, cells, at);
-        cells[at.0 as usize] = over.0;
+    while (at.0 as usize) < n {
+        let deep = space[n + at.0 as usize] as usize;
+        let over = Position(space[CLIMB * n + (deep - 1)]);
+        space[ABOVES * n + at.0 as usize] = over.0;
+        space[CLIMB * n + deep] = at.0;
         at = Position(at.0 + 1);
     }
-}
-
-// The position of the entry above: the nearest on the climb from the position before that is less deep.
-fn higher(parents: &[u32], depth: &[u32], above: &[u32], at: Position) -> Position
-    requires { ⌜ OneTree (now parents) × (now depth ≡ depthsOf (now parents)) × ((k : ℕ) → k < at .0 → getD (now above) k 0 ≡ abovePosition (now parents) (entryAt (now parents) k)) × (0 < at .0) × (at .0 < length (now depth)) × (length (now above) ≡ length (now depth)) ⌝ }
-    ensures { λ r. ⌜ r .0 ≡ abovePosition (now (parents .entry)) (entryAt (now (parents .entry)) (at .0)) ⌝ }
-{
-    let own = depth[at.0 as usize];
-    let mut over = Position(at.0 - 1);
-    while own <= depth[over.0 as usize] {
-        over = Position(above[over.0 as usize]);
-    }
-    over
 }
 
 // SIZE, HEIGHT and LONG by position into regions 2, 4 and 5 of the working space, from ABOVE in region 3 and the last position down: of children of one

@@ -25,7 +25,8 @@ pub(crate) const GROUP_WORDS: usize = limits::GROUP_WORDS as usize;
 pub(crate) const RECORD_WORDS: usize = limits::RECORD_WORDS as usize;
 
 // The regions behind the preorder and the depths, each with a word for each position: sizes, the positions of the entries above, heights, the positions of
-// the long children. LADPOS by position, and then the list of the jump entries, take the place of the sizes.
+// the long children. The positions on a climb stand before the heights in their place; LADPOS by position, and then the list of the jump entries, take that of
+// the sizes.
 pub(crate) const SIZES: usize = 2;
 
 pub(crate) const PLACES: usize = 2;
@@ -33,6 +34,8 @@ pub(crate) const PLACES: usize = 2;
 pub(crate) const JUMP_NODES: usize = 2;
 
 pub(crate) const ABOVES: usize = 3;
+
+pub(crate) const CLIMB: usize = 4;
 
 pub(crate) const HEIGHTS: usize = 4;
 

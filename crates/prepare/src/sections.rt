@@ -131,7 +131,7 @@ pub(crate) fn header_cells(parents: &[u32], counts: Counts, paths: u32, table: &
     ensures { λ _. ⌜ now (table .exit) ≡ put (now (table .entry)) 0 (headerOf (length (now (parents .entry))) ∷ counts .jumps ∷ counts .groups ∷ paths ∷ []) ⌝ }
 {
     let cells = [
-        header_of(parents.len() as u32),
+        header_of(parents.len() as u32) as u32,
         counts.jumps,
         counts.groups,
         paths,

@@ -18,7 +18,7 @@ use samples::words::put;
 use samples::words::times;
 
 fn micro(book: &[u32], v: usize) -> bool {
-    read(book, SIZE, v) <= 5
+    read(book, SIZE, v) <= 7
 }
 
 fn group_root(parents: &[u32], book: &[u32], v: usize) -> bool {

@@ -44,7 +44,7 @@ fn others(parents: &[u32], book: &[u32], n: usize, groups: usize, jumps: usize, 
 }
 
 fn header(n: usize, jumps: usize, groups: usize, paths: usize, want: &mut [u32]) {
-    put(want, 0, n);
+    put(want, 0, add(1073741824, n));
     put(want, 1, jumps);
     put(want, 2, groups);
     put(want, 3, paths);

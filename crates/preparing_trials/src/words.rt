@@ -5,7 +5,7 @@ use samples::words::times;
 
 // W: the words of a table for n entries.
 pub(crate) fn table_words(n: usize) -> usize {
-    add(add(4, times(n, 11)), times(21, n / 6))
+    add(add(4, times(n, 11)), times(21, n / 8))
 }
 
 // Where a section of the table starts: after the header and so many times n cells.

@@ -7,7 +7,8 @@ use Prim.Native.Nat.{ℕ, _<_}
 use lib.ListN.{length}
 use lib.Dec.{eqb, ltb}
 use Rattle.base.specs.Limits.{Sized, mostEntries, tableWords, groupLimit}
-use Rattle.shapes.specs.Climbs.{reached, rowOf}
+use Rattle.shapes.specs.Climbs.{reached}
+use Rattle.shapes.specs.Packed.{Packs}
 use Rattle.answers.specs.Reading.{Reading, wordAt}
 use Rattle.answers.specs.Answers.{pushed, listed, answerFrom}
 use Rattle.answers.specs.Steps.{opened}
@@ -31,12 +32,12 @@ abbrev pub pickAnswer : Bool → Answer → Answer → Answer
 pickAnswer true a b = a
 pickAnswer false a b = b
 
--- an entry of depth `depth`, with local number `local` in a group of shape `shape`, and its row of climbs; it is deeper than d
-pub record InGroup (t : List ℕ) (n d depth group shape local : ℕ) (row : List ℕ) : Type 0 where
+-- an entry of depth `depth`, with local number `local` in a group of shape `shape`, and its climbs; it is deeper than d
+pub record InGroup (t : List ℕ) (n d depth group shape local climbs : ℕ) : Type 0 where
   pub sized : Sized t n
   pub group-in : group < n
   pub deeper : d < depth
-  pub row-is : row ≡ rowOf groupLimit shape local
+  pub packs : Packs shape local climbs
   pub local-in : reached groupLimit shape local 0 ≡ none → ⊥
 
 -- step 1's tests of a count n on a table of `len` words: n where it passes, 0 where the table is broken

@@ -1,8 +1,6 @@
 // Step 3: within a group, and out of it.
 ghost use mathlib.Core.Path.{_≡_};
-ghost use Prim.Native.Nat.{ℕ, _<_};
-ghost use lib.ListN.{getD};
-ghost use lib.Dec.{eqb};
+ghost use Prim.Native.Nat.{_<_};
 ghost use Rattle.base.specs.Limits.{Sized};
 ghost use Rattle.answers.specs.Answers.{answerFrom};
 ghost use Rattle.answers.specs.Steps.{afterParentKind, afterParent, afterPosition, inGroup, afterShape, fromGroup};
@@ -16,17 +14,16 @@ use answers::Answer;
 use answers::Cells;
 use base::Node;
 use base::Position;
-use base::limits::GROUP_LIMIT;
 use base::limits::GROUP_WORDS;
 use base::limits::GROUPS;
 use base::limits::HEADER_CELLS;
-use base::limits::LOCAL_NUMBERS;
 use base::limits::MICRO_MARK;
 use base::limits::NO_LOCAL;
 use base::limits::ORDER;
 use base::limits::SHAPE_COUNT;
 use base::numbers::ACCEPTED;
-use shapes::row;
+use shapes::Climbs;
+use shapes::climbs_of;
 
 pub(crate) fn from_group(
     table: &[u32],
@@ -53,7 +50,7 @@ pub(crate) fn from_group(
     after_shape(table, n, d, depth, group, local, shape, more)
 }
 
-// The shape, and the local number's row in it.
+// The shape, which is one of a group that has the local number.
 fn after_shape(
     table: &[u32],
     n: u32,
@@ -70,17 +67,14 @@ fn after_shape(
     if SHAPE_COUNT <= shape {
         return broken(cells);
     }
-    if GROUP_LIMIT <= local {
+    let climbs = climbs_of(shape, local);
+    if climbs.reached(0) == NO_LOCAL {
         return broken(cells);
     }
-    let row = row(shape, local);
-    if row[0] == NO_LOCAL {
-        return broken(cells);
-    }
-    in_group(table, n, d, depth, group, shape, local, row, cells)
+    in_group(table, n, d, depth, group, shape, local, climbs, cells)
 }
 
-// Within the group where the climbs asked end there, else from the group's parent.
+// Within the group where the climbs asked end there, else from the group's parent. k is the depth in the group.
 fn in_group(
     table: &[u32],
     n: u32,
@@ -89,16 +83,14 @@ fn in_group(
     group: u32,
     shape: u32,
     local: u32,
-    row: [u8; LOCAL_NUMBERS],
+    climbs: Climbs,
     cells: Cells,
 ) -> Answer
-    requires { ⌜ (InGroup (now table) n d depth group shape local row) × (Held 4 cells) ⌝ }
+    requires { ⌜ (InGroup (now table) n d depth group shape local (climbs .0)) × (Held 4 cells) ⌝ }
     ensures { λ r. ⌜ r ≡ answerFrom (now (table .entry)) cells (inGroup n d depth group local shape) ⌝ }
 {
-    let climbs = depth - d;
-    let to = reached(row, climbs);
-    if to == NO_LOCAL {
-        let before = reached(row, climbs - 1);
+    let k = climbs.depth();
+    if k < depth - d {
         let got = read(
             table,
             HEADER_CELLS + GROUPS * n + GROUP_WORDS * group + 2,
@@ -106,27 +98,17 @@ fn in_group(
         );
         let p = Node(got.word);
         let more = got.cells;
-        return after_parent(table, n, d, before != NO_LOCAL, p, more);
+        return after_parent(table, n, d, depth - k - 1, p, more);
     }
     let got = read(
         table,
         HEADER_CELLS + GROUPS * n + GROUP_WORDS * group,
         cells,
     );
+    let to = climbs.reached(depth - d);
     let position = Position(got.word);
     let more = got.cells;
     after_position(table, n, to as u32, position, more)
-}
-
-// The local number that k climbs reach by a row of the shape table, 255 where there is none.
-fn reached(row: [u8; LOCAL_NUMBERS], k: u32) -> u8
-    ensures { λ r. ⌜ r ≡ getD row k 255 ⌝ }
-{
-    if k < GROUP_LIMIT {
-        row[k as usize]
-    } else {
-        NO_LOCAL
-    }
 }
 
 // ORDER at the group's position plus the local number reached. The position is tested before the sum is made, so that the sum does not wrap.
@@ -147,15 +129,15 @@ fn after_position(table: &[u32], n: u32, local: u32, position: Position, cells: 
     after_class(n, class, more)
 }
 
-// The group's parent p; `here` tells whether p has the depth asked.
-fn after_parent(table: &[u32], n: u32, d: u32, here: bool, p: Node, cells: Cells) -> Answer
+// The group's parent p, of a depth.
+fn after_parent(table: &[u32], n: u32, d: u32, depth: u32, p: Node, cells: Cells) -> Answer
     requires { ⌜ (Sized (now table) n) × (Held 5 cells) ⌝ }
-    ensures { λ r. ⌜ ((depth : ℕ) → here ≡ eqb depth d → r ≡ answerFrom (now (table .entry)) cells (afterParent n d depth (p .0))) ⌝ }
+    ensures { λ r. ⌜ r ≡ answerFrom (now (table .entry)) cells (afterParent n d depth (p .0)) ⌝ }
 {
     if n <= p.0 {
         return broken(cells);
     }
-    if here {
+    if depth == d {
         return Answer {
             number: ACCEPTED,
             word: p.0,

@@ -11,7 +11,6 @@ ghost use Rattle.query.specs.Lookups.{fromLookup, countsClimbs, askedAt,
 use crate::group::from_group;
 use crate::joining::with_four;
 use crate::jump::from_jump;
-use crate::reading::broken;
 use crate::reading::read;
 use answers::ANSWER_WORDS;
 use answers::Answer;
@@ -24,6 +23,7 @@ use base::limits::MOST_ENTRIES;
 use base::limits::entries_of;
 use base::limits::table_words;
 use base::numbers::ACCEPTED;
+use base::numbers::BROKEN;
 use base::numbers::TOO_DEEP;
 use base::numbers::UNKNOWN;
 
@@ -36,26 +36,41 @@ pub enum Lookup {
     Rating,
 }
 
-// As `look`, in words of the caller's. The level lookup, the climb, the rating lookup and the premium of other languages, and branch, ask here alone, so that the
-// compiler sets the steps in place once and writes each word where it is wanted.
+// One of the three lookups, in words of the caller's. The level lookup, the climb, the rating lookup and the premium of other languages, and branch, ask here
+// alone, so that the compiler sets the steps in place once. What ends in step 1 or 2 is written there, what ends within a group or behind it in `after_kind`: an
+// answer that all ends have in common would keep each cell in a register up to its end.
 pub fn look_words(table: &[u32], lookup: Lookup, v: Node, x: u32, words: &mut [u32; ANSWER_WORDS])
     ensures { λ _. ⌜ now (words .exit) ≡ answerWords (answerTo (now (table .entry)) (opened (length (now (table .entry))) (fromLookup lookup (v .0) x))) ⌝ }
-{
-    let answer = look(table, lookup, v, x);
-    *words = answer.words();
-}
-
-// One of the three lookups.
-pub(crate) fn look(table: &[u32], lookup: Lookup, v: Node, x: u32) -> Answer
-    ensures { λ r. ⌜ r ≡ answerFrom (now (table .entry)) (listed []) (opened (length (now (table .entry))) (fromLookup lookup (v .0) x)) ⌝ }
 {
     let open = opened(table);
     let n = open.n;
     let cells = open.cells;
     if n == 0 {
-        return broken(cells);
+        end(BROKEN, 0, cells, words);
+        return;
     }
-    from_entry(table, n, lookup, v, x, cells)
+    from_entry(table, n, lookup, v, x, cells, words);
+}
+
+// As `look_words`, by value.
+pub(crate) fn look(table: &[u32], lookup: Lookup, v: Node, x: u32) -> Answer
+    ensures { λ r. ⌜ r ≡ answerFrom (now (table .entry)) (listed []) (opened (length (now (table .entry))) (fromLookup lookup (v .0) x)) ⌝ }
+{
+    let mut words = [0u32; ANSWER_WORDS];
+    look_words(table, lookup, v, x, &mut words);
+    Answer::of_words(words)
+}
+
+// An answer, where it is wanted.
+fn end(number: u32, word: u32, cells: Cells, words: &mut [u32; ANSWER_WORDS])
+    ensures { λ _. ⌜ now (words .exit) ≡ answerWords (record { number = number; word = word; cells = cells }) ⌝ }
+{
+    let answer = Answer {
+        number,
+        word,
+        cells,
+    };
+    *words = answer.words();
 }
 
 // What step 1 finds: the number of entries, 0 where the table is broken.
@@ -91,21 +106,26 @@ fn counted(words: usize, n: u32) -> u32
 }
 
 // Step 2: v.
-fn from_entry(table: &[u32], n: u32, lookup: Lookup, v: Node, x: u32, cells: Cells) -> Answer
+fn from_entry(
+    table: &[u32],
+    n: u32,
+    lookup: Lookup,
+    v: Node,
+    x: u32,
+    cells: Cells,
+    words: &mut [u32; ANSWER_WORDS],
+)
     requires { ⌜ (Sized (now table) n) × (Held 1 cells) ⌝ }
-    ensures { λ r. ⌜ r ≡ answerFrom (now (table .entry)) cells (fromLookup lookup (v .0) x n) ⌝ }
+    ensures { λ _. ⌜ now (words .exit) ≡ answerWords (answerFrom (now (table .entry)) cells (fromLookup lookup (v .0) x n)) ⌝ }
 {
     if n <= v.0 {
-        return Answer {
-            number: UNKNOWN,
-            word: v.0,
-            cells,
-        };
+        end(UNKNOWN, v.0, cells, words);
+        return;
     }
     let got = read(table, HEADER_CELLS + v.0, cells);
     let depth = got.word;
     let more = got.cells;
-    after_depth(table, n, lookup, v, x, depth, more)
+    after_depth(table, n, lookup, v, x, depth, more, words);
 }
 
 // Step 2: the depth of v.
@@ -117,21 +137,20 @@ fn after_depth(
     x: u32,
     depth: u32,
     cells: Cells,
-) -> Answer
+    words: &mut [u32; ANSWER_WORDS],
+)
     requires { ⌜ (Sized (now table) n) × (v .0 < n) × (Held 2 cells) ⌝ }
-    ensures { λ r. ⌜ r ≡ answerFrom (now (table .entry)) cells (afterDepth n (countsClimbs lookup) (v .0) (askedAt lookup x depth) depth) ⌝ }
+    ensures { λ _. ⌜ now (words .exit) ≡ answerWords (answerFrom (now (table .entry)) cells (afterDepth n (countsClimbs lookup) (v .0) (askedAt lookup x depth) depth)) ⌝ }
 {
     if n <= depth {
-        return broken(cells);
+        end(BROKEN, 0, cells, words);
+        return;
     }
     if depth < x {
-        return Answer {
-            number: past_depth(lookup),
-            word: v.0,
-            cells,
-        };
+        end(past_depth(lookup), v.0, cells, words);
+        return;
     }
-    ancestor_at(table, n, v, wanted(lookup, x, depth), depth, cells)
+    ancestor_at(table, n, v, wanted(lookup, x, depth), depth, cells, words);
 }
 
 // The number where x is over the depth: too deep, but an entry is rated as itself.
@@ -157,37 +176,48 @@ fn wanted(lookup: Lookup, x: u32, depth: u32) -> u32
     }
 }
 
-fn ancestor_at(table: &[u32], n: u32, v: Node, d: u32, depth: u32, cells: Cells) -> Answer
+fn ancestor_at(
+    table: &[u32],
+    n: u32,
+    v: Node,
+    d: u32,
+    depth: u32,
+    cells: Cells,
+    words: &mut [u32; ANSWER_WORDS],
+)
     requires { ⌜ (Sized (now table) n) × (v .0 < n) × (d ≤ depth) × (Held 2 cells) ⌝ }
-    ensures { λ r. ⌜ r ≡ answerFrom (now (table .entry)) cells (ancestorAt n (v .0) d depth) ⌝ }
+    ensures { λ _. ⌜ now (words .exit) ≡ answerWords (answerFrom (now (table .entry)) cells (ancestorAt n (v .0) d depth)) ⌝ }
 {
     if depth == d {
-        return Answer {
-            number: ACCEPTED,
-            word: v.0,
-            cells,
-        };
+        end(ACCEPTED, v.0, cells, words);
+        return;
     }
     let got = read(table, HEADER_CELLS + n + v.0, cells);
     let kind = got.word;
     let more = got.cells;
-    after_kind(table, n, d, depth, kind, more)
+    after_kind(table, n, d, depth, kind, more, words);
 }
 
 // By KIND: a group, or straight to step 4. Three cells were read.
-fn after_kind(table: &[u32], n: u32, d: u32, depth: u32, kind: u32, cells: Cells) -> Answer
+fn after_kind(
+    table: &[u32],
+    n: u32,
+    d: u32,
+    depth: u32,
+    kind: u32,
+    cells: Cells,
+    words: &mut [u32; ANSWER_WORDS],
+)
     requires { ⌜ (Sized (now table) n) × (d < depth) × (Held 3 cells) ⌝ }
-    ensures { λ r. ⌜ r ≡ answerFrom (now (table .entry)) cells (afterKind n d depth kind) ⌝ }
+    ensures { λ _. ⌜ now (words .exit) ≡ answerWords (answerFrom (now (table .entry)) cells (afterKind n d depth kind)) ⌝ }
 {
     if MICRO_MARK <= kind {
         let x = kind - MICRO_MARK;
-        return from_group(table, n, d, depth, x / LOCAL_SPAN, x % LOCAL_SPAN, cells);
+        let a = from_group(table, n, d, depth, x / LOCAL_SPAN, x % LOCAL_SPAN, cells);
+        *words = a.words();
+        return;
     }
     let a = from_jump(table, n, d, kind);
     let more = a.cells;
-    Answer {
-        number: a.number,
-        word: a.word,
-        cells: with_four(cells, 3, more),
-    }
+    end(a.number, a.word, with_four(cells, 3, more), words);
 }

@@ -23,7 +23,13 @@ use samples::words::wide;
 
 const MICRO: usize = 2147483648;
 
-const WRONG_WORDS: usize = 12;
+// Cell 0 of no entries.
+const HEADER: usize = 1073741824;
+
+// The shapes of groups.
+const SHAPES: usize = 197;
+
+const WRONG_WORDS: usize = 15;
 
 // The i-th wrong word for a cell: what the tests of the steps stand on, and some by seed.
 fn wrong_word(i: usize, word: usize, n: usize, seed: usize) -> usize {
@@ -39,6 +45,9 @@ fn wrong_word(i: usize, word: usize, n: usize, seed: usize) -> usize {
         8 => add(MICRO, times(n, 8)),
         9 => add(MICRO, pick(seed, times(n, 8))),
         10 => pick(seed, times(n, 2)),
+        11 => SHAPES,
+        12 => less(SHAPES, 1),
+        13 => pick(seed, SHAPES),
         _ => times(seed, 2),
     }
 }
@@ -109,7 +118,7 @@ fn each_wrong(table: &mut [u32], strings: &[u32], parents: &[u32], n: usize) -> 
     sum
 }
 
-// With other numbers of entries claimed: the sections stand elsewhere.
+// With other numbers of entries claimed, so that the sections stand elsewhere, and with cell 0 as an older table has it.
 fn claims(table: &mut [u32], strings: &[u32], parents: &[u32], n: usize) -> Tally {
     let most = add(n, 3);
     let mut sum = Tally::new();
@@ -117,9 +126,11 @@ fn claims(table: &mut [u32], strings: &[u32], parents: &[u32], n: usize) -> Tall
     while claim < most {
         put(table, 0, claim);
         sum = sum.plus(probe(table, strings, parents, n, claim));
+        put(table, 0, add(HEADER, claim));
+        sum = sum.plus(probe(table, strings, parents, n, claim));
         claim += 1;
     }
-    put(table, 0, n);
+    put(table, 0, add(HEADER, n));
     sum
 }
 

@@ -187,7 +187,7 @@ fn run(parents: &mut [u32], table: &mut [u32], space: &mut [u32], strings: &[u32
 
 fn main() {
     let mut parents = [0u32; 512];
-    let mut table = [0u32; 7424];
+    let mut table = [0u32; 6983];
     let mut space = [0u32; 3075];
     let strings = shape_strings();
     run(&mut parents, &mut table, &mut space, &strings);

@@ -91,8 +91,8 @@ fn accepted(replies: Replies) -> Count {
 fn try_list(line: usize, k: usize) -> Count {
     let mut parents = [0u32; 512];
     let mut numbers = [0u32; 512];
-    let mut table = [0u32; 7424];
-    let mut other_table = [0u32; 7424];
+    let mut table = [0u32; 6983];
+    let mut other_table = [0u32; 6983];
     let c = case_at(line, k, &mut parents);
     let replies = renumber(c.n, k, &parents, &mut numbers, &mut table, &mut other_table);
     without_cells(replies.first == replies.second)
@@ -189,8 +189,8 @@ fn questions(
 fn try_tree(money: bool, kind: usize, k: usize) -> Count {
     let mut parents = [0u32; 512];
     let mut numbers = [0u32; 512];
-    let mut table = [0u32; 7424];
-    let mut other_table = [0u32; 7424];
+    let mut table = [0u32; 6983];
+    let mut other_table = [0u32; 6983];
     let c = case_at(kind, k, &mut parents);
     let replies = renumber(c.n, k, &parents, &mut numbers, &mut table, &mut other_table);
     together(
@@ -279,8 +279,8 @@ fn try_text(
 fn try_sheet(kind: usize, seed: usize) -> Count {
     let mut parents = [0u32; 512];
     let mut numbers = [0u32; 512];
-    let mut table = [0u32; 7424];
-    let mut other_table = [0u32; 7424];
+    let mut table = [0u32; 6983];
+    let mut other_table = [0u32; 6983];
     let mut text = [0u8; 32768];
     let laid = lay_sheet(kind, seed, &mut parents, &mut text);
     let replies = renumber(

@@ -11,12 +11,12 @@ countOf line = cond (ltb line 7) 212 (cond (eqb line 14) 1440 (cond (eqb line 15
 
 -- W, of n entries
 abbrev pub room : ℕ → ℕ
-room n = 4 + 11 * n + 21 * (n / 6)
+room n = 4 + 11 * n + 21 * (n / 8)
 
 -- the lengths of a case of a line: on line 11 the list is empty, on 12 the table is too short, on 13 the space, and else both have room
 pub record Lengths (line : ℕ) (c : Case) : Type 0 where
   pub few : c .n ≤ 512
-  pub table : c .table ≤ 7424
+  pub table : c .table ≤ 6983
   pub space : c .space ≤ 3075
   pub empty : line ≡ 11 → c .n ≡ 0
   pub shortTable : line ≡ 12 → c .table < room (c .n)

@@ -131,9 +131,9 @@ fn list_at(line: usize, k: usize, seed: usize, parents: &mut [u32]) -> usize
 // W, of a list of up to 512 entries.
 fn table_words(n: usize) -> usize
     requires { ⌜ n ≤ 512 ⌝ }
-    ensures { λ r. ⌜ (r ≡ room n) × (r ≤ 7421) ⌝ }
+    ensures { λ r. ⌜ (r ≡ room n) × (r ≤ 6980) ⌝ }
 {
-    4 + 11 * n + 21 * (n / 6)
+    4 + 11 * n + 21 * (n / 8)
 }
 
 // The lengths of a line's case: table and space have up to three words to spare, or are too short.

@@ -2,6 +2,8 @@
 pub mod Sizes
 pub mod Rule
 pub mod Heights
+pub mod PackedRows
+pub mod Sevens
 pub mod Turns
 pub mod Depths
 pub mod Rank

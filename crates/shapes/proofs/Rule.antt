@@ -37,6 +37,6 @@ pub no-shape : (L s : ℕ) → length (shapes L) ≤ s → rowsOf L s ≡ below 
 unfolding rowsOf rowOf reached bind
 no-shape L s h = ap (λ (o : Option Walk). below L (λ l. below L (λ k. mark (bind o (λ w. up (parentList w) k l))))) (at-past (shapes L) s h)
 
--- the paper's limit has 23 shapes
+-- the group limit has 197 shapes
 pub shape-count : length (shapes groupLimit) ≡ shapeCount
 shape-count = refl

@@ -1,4 +1,5 @@
--- The shapes of groups, the table of their climbs, and the number of a shape by the depths of a group.
+-- The shapes of groups, the table of their climbs and how it is packed, and the number of a shape by the depths of a group.
 pub mod Walks
 pub mod Climbs
+pub mod Packed
 pub mod Numbered

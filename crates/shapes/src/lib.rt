@@ -1,204 +1,77 @@
-// The shape table, and the number of a group's shape.
+// The shape table: where the climbs within a small group lead. And the number of a shape.
 mod numbering;
+mod packed;
 
 pub use numbering::number;
 ghost use mathlib.Core.Path.{_≡_};
 ghost use Rattle.base.specs.Limits.{groupLimit};
 ghost use Rattle.shapes.specs.Climbs.{rowOf, rowsOf, Rule};
+ghost use Rattle.shapes.specs.Packed.{cellIn, depthIn, Packs};
+use base::limits::GROUP_LIMIT;
 use base::limits::LOCAL_NUMBERS;
 use base::limits::NO_LOCAL;
+use packed::byte;
+use packed::climbs_along;
+use packed::path;
 
-// A shape's part of the shape table: a row of five climbs (0 to 4) for each of five local numbers, 255 where there is none. There are 23 shapes; any
-// other number has only 255. A match with a literal in each arm copies one shape's cells from read-only tables; a constant array is rebuilt whole at
-// each call.
+// A shape's part of the shape table: a row of seven climbs (0 to 6) for each of seven local numbers, 255 where there is none. There are 197 shapes; any other
+// number has only 255.
 pub fn rows(shape: u32) -> [[u8; LOCAL_NUMBERS]; LOCAL_NUMBERS]
     ensures table { λ r. ⌜ r ≡ rowsOf groupLimit shape ⌝ }
     ensures rule { λ r. ⌜ Rule groupLimit shape r ⌝ }
 {
-    match shape {
-        0 => [
-            [0, 255, 255, 255, 255],
-            [255, 255, 255, 255, 255],
-            [255, 255, 255, 255, 255],
-            [255, 255, 255, 255, 255],
-            [255, 255, 255, 255, 255],
-        ],
-        1 => [
-            [0, 255, 255, 255, 255],
-            [1, 0, 255, 255, 255],
-            [255, 255, 255, 255, 255],
-            [255, 255, 255, 255, 255],
-            [255, 255, 255, 255, 255],
-        ],
-        2 => [
-            [0, 255, 255, 255, 255],
-            [1, 0, 255, 255, 255],
-            [2, 1, 0, 255, 255],
-            [255, 255, 255, 255, 255],
-            [255, 255, 255, 255, 255],
-        ],
-        3 => [
-            [0, 255, 255, 255, 255],
-            [1, 0, 255, 255, 255],
-            [2, 0, 255, 255, 255],
-            [255, 255, 255, 255, 255],
-            [255, 255, 255, 255, 255],
-        ],
-        4 => [
-            [0, 255, 255, 255, 255],
-            [1, 0, 255, 255, 255],
-            [2, 1, 0, 255, 255],
-            [3, 2, 1, 0, 255],
-            [255, 255, 255, 255, 255],
-        ],
-        5 => [
-            [0, 255, 255, 255, 255],
-            [1, 0, 255, 255, 255],
-            [2, 1, 0, 255, 255],
-            [3, 1, 0, 255, 255],
-            [255, 255, 255, 255, 255],
-        ],
-        6 => [
-            [0, 255, 255, 255, 255],
-            [1, 0, 255, 255, 255],
-            [2, 1, 0, 255, 255],
-            [3, 0, 255, 255, 255],
-            [255, 255, 255, 255, 255],
-        ],
-        7 => [
-            [0, 255, 255, 255, 255],
-            [1, 0, 255, 255, 255],
-            [2, 0, 255, 255, 255],
-            [3, 2, 0, 255, 255],
-            [255, 255, 255, 255, 255],
-        ],
-        8 => [
-            [0, 255, 255, 255, 255],
-            [1, 0, 255, 255, 255],
-            [2, 0, 255, 255, 255],
-            [3, 0, 255, 255, 255],
-            [255, 255, 255, 255, 255],
-        ],
-        9 => [
-            [0, 255, 255, 255, 255],
-            [1, 0, 255, 255, 255],
-            [2, 1, 0, 255, 255],
-            [3, 2, 1, 0, 255],
-            [4, 3, 2, 1, 0],
-        ],
-        10 => [
-            [0, 255, 255, 255, 255],
-            [1, 0, 255, 255, 255],
-            [2, 1, 0, 255, 255],
-            [3, 2, 1, 0, 255],
-            [4, 2, 1, 0, 255],
-        ],
-        11 => [
-            [0, 255, 255, 255, 255],
-            [1, 0, 255, 255, 255],
-            [2, 1, 0, 255, 255],
-            [3, 2, 1, 0, 255],
-            [4, 1, 0, 255, 255],
-        ],
-        12 => [
-            [0, 255, 255, 255, 255],
-            [1, 0, 255, 255, 255],
-            [2, 1, 0, 255, 255],
-            [3, 2, 1, 0, 255],
-            [4, 0, 255, 255, 255],
-        ],
-        13 => [
-            [0, 255, 255, 255, 255],
-            [1, 0, 255, 255, 255],
-            [2, 1, 0, 255, 255],
-            [3, 1, 0, 255, 255],
-            [4, 3, 1, 0, 255],
-        ],
-        14 => [
-            [0, 255, 255, 255, 255],
-            [1, 0, 255, 255, 255],
-            [2, 1, 0, 255, 255],
-            [3, 1, 0, 255, 255],
-            [4, 1, 0, 255, 255],
-        ],
-        15 => [
-            [0, 255, 255, 255, 255],
-            [1, 0, 255, 255, 255],
-            [2, 1, 0, 255, 255],
-            [3, 1, 0, 255, 255],
-            [4, 0, 255, 255, 255],
-        ],
-        16 => [
-            [0, 255, 255, 255, 255],
-            [1, 0, 255, 255, 255],
-            [2, 1, 0, 255, 255],
-            [3, 0, 255, 255, 255],
-            [4, 3, 0, 255, 255],
-        ],
-        17 => [
-            [0, 255, 255, 255, 255],
-            [1, 0, 255, 255, 255],
-            [2, 1, 0, 255, 255],
-            [3, 0, 255, 255, 255],
-            [4, 0, 255, 255, 255],
-        ],
-        18 => [
-            [0, 255, 255, 255, 255],
-            [1, 0, 255, 255, 255],
-            [2, 0, 255, 255, 255],
-            [3, 2, 0, 255, 255],
-            [4, 3, 2, 0, 255],
-        ],
-        19 => [
-            [0, 255, 255, 255, 255],
-            [1, 0, 255, 255, 255],
-            [2, 0, 255, 255, 255],
-            [3, 2, 0, 255, 255],
-            [4, 2, 0, 255, 255],
-        ],
-        20 => [
-            [0, 255, 255, 255, 255],
-            [1, 0, 255, 255, 255],
-            [2, 0, 255, 255, 255],
-            [3, 2, 0, 255, 255],
-            [4, 0, 255, 255, 255],
-        ],
-        21 => [
-            [0, 255, 255, 255, 255],
-            [1, 0, 255, 255, 255],
-            [2, 0, 255, 255, 255],
-            [3, 0, 255, 255, 255],
-            [4, 3, 0, 255, 255],
-        ],
-        22 => [
-            [0, 255, 255, 255, 255],
-            [1, 0, 255, 255, 255],
-            [2, 0, 255, 255, 255],
-            [3, 0, 255, 255, 255],
-            [4, 0, 255, 255, 255],
-        ],
-        _ => [
-            [255, 255, 255, 255, 255],
-            [255, 255, 255, 255, 255],
-            [255, 255, 255, 255, 255],
-            [255, 255, 255, 255, 255],
-            [255, 255, 255, 255, 255],
-        ],
-    }
+    [
+        row(shape, 0),
+        row(shape, 1),
+        row(shape, 2),
+        row(shape, 3),
+        row(shape, 4),
+        row(shape, 5),
+        row(shape, 6),
+    ]
 }
 
-// The row of climbs of one local number of a shape, for every number of either. Each arm takes its row at a constant place, so that the compiler reads
-// that row and not all five.
+// The row of climbs of one local number of a shape, for every number of either.
 pub fn row(shape: u32, local: u32) -> [u8; LOCAL_NUMBERS]
     ensures { λ r. ⌜ r ≡ rowOf groupLimit shape local ⌝ }
 {
-    let all = rows(shape);
-    match local {
-        0 => all[0],
-        1 => all[1],
-        2 => all[2],
-        3 => all[3],
-        4 => all[4],
-        _ => [NO_LOCAL; LOCAL_NUMBERS],
+    let climbs = climbs_of(shape, local);
+    [
+        climbs.reached(0),
+        climbs.reached(1),
+        climbs.reached(2),
+        climbs.reached(3),
+        climbs.reached(4),
+        climbs.reached(5),
+        climbs.reached(6),
+    ]
+}
+
+// A row in one word, with the local number's depth in the group: a lookup takes one cell of it without building the row.
+pub struct Climbs(pub u64);
+
+// The row of one local number of a shape as such a word, for every number of either.
+pub fn climbs_of(shape: u32, local: u32) -> Climbs
+    ensures { λ r. ⌜ Packs shape local (r .0) ⌝ }
+{
+    Climbs(climbs_along(path(shape, local)))
+}
+
+impl Climbs {
+    // The local number that so many climbs reach, 255 where there is none.
+    pub fn reached(self, climbs: u32) -> u8
+        ensures { λ r. ⌜ r ≡ cellIn (self .0) climbs ⌝ }
+    {
+        if GROUP_LIMIT <= climbs {
+            return NO_LOCAL;
+        }
+        byte(self.0, climbs)
+    }
+
+    // The local number's depth in the group.
+    pub fn depth(self) -> u32
+        ensures { λ r. ⌜ r ≡ depthIn (self .0) ⌝ }
+    {
+        byte(self.0, GROUP_LIMIT) as u32
     }
 }

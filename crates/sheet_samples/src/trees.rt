@@ -82,13 +82,18 @@ pub fn asked_level(kind: usize, n: usize, d: usize, seed: usize) -> usize
     }
 }
 
-// A cell 0 that step 1 calls broken in a table of n entries.
+// Cell 0 of no entries.
+const HEADER: usize = 1073741824;
+
+// A cell 0 that step 1 calls broken in a table of n entries: an older table's among them.
 fn broken_count(n: usize, seed: usize) -> usize {
-    match pick(seed, 4) {
+    match pick(seed, 6) {
         0 => 0,
-        1 => 1048577,
-        2 => TOP,
-        _ => add(n, 1),
+        1 => n,
+        2 => HEADER,
+        3 => add(HEADER, 1048577),
+        4 => TOP,
+        _ => add(HEADER, add(n, 1)),
     }
 }
 

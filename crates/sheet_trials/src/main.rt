@@ -127,7 +127,7 @@ fn try_in(
 
 fn try_sheet(kind: usize, seed: usize) -> Tally {
     let mut parents = [0u32; 512];
-    let mut table = [0u32; 7424];
+    let mut table = [0u32; 6983];
     let mut text = [0u8; 196608];
     try_in(kind, seed, &mut parents, &mut table, &mut text)
 }

@@ -18,7 +18,7 @@ use Rattle.table.specs.Preparing.{countFault, tableFault, spaceFault, ca
 
 -- cell 0 tells the number of entries
 pub header-inverse : (n : ℕ) → entriesOf (headerOf n) ≡ n
-header-inverse n = refl
+header-inverse n = omega arith
 
 -- 1: the number of entries is from 1 to 1,048,576
 pub count-iff : (n : ℕ) → (countFault n ≡ none) ↔ ((1 ≤ n) × (n ≤ mostEntries))

@@ -163,11 +163,7 @@ fn question_table(rows: &[Row]) -> String {
         "---:|".repeat(QUESTIONS.len())
     );
     for r in rows {
-        let cells: Vec<String> = r
-            .questions
-            .iter()
-            .map(|&times| told(times))
-            .collect();
+        let cells: Vec<String> = r.questions.iter().map(|&times| told(times)).collect();
         text.push_str(&format!(
             "| {} | {} | {} | {:.0} | {:.1} |\n",
             r.n,

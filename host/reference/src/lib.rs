@@ -8,6 +8,7 @@ mod prepare;
 mod questions;
 mod shapes;
 mod sheets;
+mod steps;
 pub mod trees;
 
 pub use common::{distance, nearest_common_ancestor};
@@ -16,6 +17,7 @@ pub use premium::{premium, Quote};
 pub use prepare::{prepare, space_words, table_words};
 pub use questions::{ancestry, branch, climb, level, rating, Answer};
 pub use sheets::{price, sheet, Fault, Sheet};
+pub use steps::level as level_by_steps;
 
 /// The word of a top entry in a parent list, and of a group whose root is the top.
 pub const TOP: u32 = u32::MAX;
@@ -25,6 +27,9 @@ pub const MOST: usize = 1 << 20;
 
 /// KIND of a micro entry starts here.
 pub const MICRO: u32 = 1 << 31;
+
+/// What cell 0 holds beside the number of entries.
+pub const HEADER: u32 = 1 << 30;
 
 /// Where the sections of a table of n entries start.
 #[derive(Clone, Copy)]
@@ -60,7 +65,11 @@ impl Sections {
     pub fn jumps(self) -> usize {
         4 + 11 * self.n
     }
+    /// The records that JUMPS has room for.
+    pub fn records(self) -> usize {
+        self.n / 8
+    }
     pub fn words(self) -> usize {
-        4 + 11 * self.n + 21 * (self.n / 6)
+        4 + 11 * self.n + 21 * self.records()
     }
 }

@@ -1,6 +1,7 @@
 //! The premium of a sum insured, by whole numbers with their sign.
 
-use crate::questions::{rated, Answer, Reader, Refusal};
+use crate::questions::{rated, Answer, Refusal};
+use crate::sheets::Fault;
 
 /// The greatest rate, per million.
 pub(crate) const MOST_RATE: u32 = 1_000_000;
@@ -19,13 +20,32 @@ pub struct Quote {
 /// The premium of a sum for v at rating level d.
 #[inline(never)]
 pub fn premium(table: &[u32], rates: &[u32], v: u32, d: u32, sum: i64) -> Quote {
-    let mut r = Reader::new(table);
-    let priced = rated(&mut r, v, d).and_then(|class| Ok((class, cents(rates, class, sum)?)));
-    Quote {
-        answer: r.answer(priced.map(|p| p.0)),
+    priced(table, v, d, |class| Ok(cents(rates, class, sum)?))
+}
+
+/// The quote of a rating: the cents of its class, or why there are none.
+#[inline(always)]
+pub(crate) fn priced(
+    table: &[u32],
+    v: u32,
+    d: u32,
+    cents: impl FnOnce(u32) -> Result<i64, Fault>,
+) -> Quote {
+    let mut quote = Quote {
+        answer: rated(table, v, d),
         amount: 0,
-        cents: priced.map_or(0, |p| p.1),
+        cents: 0,
+    };
+    if quote.answer.number == 0 {
+        match cents(quote.answer.word) {
+            Ok(cents) => quote.cents = cents,
+            Err(fault) => {
+                (quote.answer.number, quote.answer.word) = (fault.number, fault.word);
+                quote.amount = fault.amount;
+            }
+        }
     }
+    quote
 }
 
 fn cents(rates: &[u32], class: u32, sum: i64) -> Result<i64, Refusal> {

@@ -1,7 +1,7 @@
 //! Preparing.
 
-use crate::shapes::number;
-use crate::{Sections, MICRO, MOST, TOP};
+use crate::shapes::{number, LIMIT};
+use crate::{Sections, HEADER, MICRO, MOST, TOP};
 
 /// W, the words of a table for n entries.
 pub fn table_words(n: usize) -> usize {
@@ -128,32 +128,40 @@ fn fill(parents: &[u32], table: &mut [u32], space: &mut [u32]) {
     let (sizes, rest) = rest.split_at_mut(n);
     let (ladders, rest) = rest.split_at_mut(2 * n);
     let (groups, jumps) = rest.split_at_mut(3 * n);
+    above_by_position(depth, above, size);
+    measure(above, size, height, long);
     orders.copy_from_slice(order);
     for (i, &v) in order.iter().enumerate() {
         pres[v as usize] = i as u32;
-        depths[v as usize] = depth[i];
     }
-    above_by_position(depth, above);
-    measure(above, size, height, long);
-    for (i, &v) in order.iter().enumerate() {
-        sizes[v as usize] = size[i];
-    }
-    let paths = lay_ladders(order, depth, above, height, long, ladpos, ladders);
-    let group_count = lay_groups(order, depth, above, size, kinds, groups);
-    let jump_count = lay_jumps(order, size, depth, kinds, ladpos, ladders, jumps);
+    scatter(order, depth, depths);
+    scatter(order, size, sizes);
+    let (group_count, jump_count) = lay_groups(order, depth, above, size, kinds, groups);
+    let places = size;
+    let paths = lay_ladders(order, depth, above, height, long, places, ladders);
+    scatter(order, places, ladpos);
+    lay_jumps(
+        order, kinds, depths, ladpos, ladders, long, jump_count, jumps,
+    );
     debug_assert_eq!(4 + n * 11 + jumps.len(), s.words());
-    head.copy_from_slice(&[n as u32, jump_count, group_count, paths]);
+    head.copy_from_slice(&[HEADER + n as u32, jump_count, group_count, paths]);
 }
 
-/// The position above each, by a chain of the last entry of each depth.
-fn above_by_position(depth: &[u32], above: &mut [u32]) {
+/// A word for each position into the cell of the entry there.
+fn scatter(order: &[u32], words: &[u32], cells: &mut [u32]) {
+    for (&v, &w) in order.iter().zip(words) {
+        cells[v as usize] = w;
+    }
+}
+
+/// The position above each: the last one that is one less deep. `path` has the last of each depth on the way.
+fn above_by_position(depth: &[u32], above: &mut [u32], path: &mut [u32]) {
     above[0] = TOP;
+    path[0] = 0;
     for i in 1..depth.len() {
-        let mut p = i as u32 - 1;
-        while depth[p as usize] >= depth[i] {
-            p = above[p as usize];
-        }
-        above[i] = p;
+        let d = depth[i] as usize;
+        above[i] = path[d - 1];
+        path[d] = i as u32;
     }
 }
 
@@ -166,53 +174,51 @@ fn measure(above: &[u32], size: &mut [u32], height: &mut [u32], long: &mut [u32]
     for i in (1..n).rev() {
         let p = above[i] as usize;
         size[p] += size[i];
-        if height[i] + 1 >= height[p] {
-            height[p] = height[i] + 1;
-            long[p] = i as u32;
-        }
+        let (rise, high, old) = (height[i] + 1, height[p], long[p]);
+        let tall = high <= rise;
+        height[p] = if tall { rise } else { high };
+        long[p] = if tall { i as u32 } else { old };
     }
 }
 
-/// Ladders in preorder of their paths' tops, and each entry's place. Answers the number of paths.
+/// Ladders in preorder of their paths' tops, and each position's place. The ancestors of a path's top stand in the ladder of
+/// the entry above it. Answers the number of paths.
 fn lay_ladders(
     order: &[u32],
     depth: &[u32],
     above: &[u32],
     height: &[u32],
     long: &[u32],
-    ladpos: &mut [u32],
+    places: &mut [u32],
     ladders: &mut [u32],
 ) -> u32 {
     let mut paths = 0;
     let mut end = 0usize;
     for i in 0..order.len() {
-        if i > 0 && long[above[i] as usize] == i as u32 {
+        let p = above[i] as usize;
+        if i > 0 && long[p] == i as u32 {
+            let place = places[p] + 1;
+            places[i] = place;
+            ladders[place as usize] = order[i];
             continue;
         }
         paths += 1;
         let over = height[i].min(depth[i]) as usize;
-        let start = end + over;
-        let mut p = i;
-        for k in (end..start).rev() {
-            p = above[p] as usize;
-            ladders[k] = order[p];
+        if over > 0 {
+            let from = places[p] as usize + 1 - over;
+            for k in 0..over {
+                ladders[end + k] = ladders[from + k];
+            }
         }
-        let mut place = start;
-        let mut p = i as u32;
-        while p != TOP {
-            let v = order[p as usize];
-            ladders[place] = v;
-            ladpos[v as usize] = place as u32;
-            place += 1;
-            p = long[p as usize];
-        }
-        end = place;
+        places[i] = (end + over) as u32;
+        ladders[end + over] = order[i];
+        end += over + height[i] as usize;
     }
     ladders[end..].fill(0);
     paths
 }
 
-/// KIND of the micro entries, and GROUPS. Answers the number of groups.
+/// KIND, and GROUPS. Answers the numbers of groups and of jump entries.
 fn lay_groups(
     order: &[u32],
     depth: &[u32],
@@ -220,11 +226,17 @@ fn lay_groups(
     size: &[u32],
     kinds: &mut [u32],
     groups: &mut [u32],
-) -> u32 {
+) -> (u32, u32) {
     let mut count = 0u32;
+    let mut jumps = 0u32;
+    // The last entry of size 8 or more so far: a jump entry if the next one lies past its family.
+    let mut last = 0;
     let mut i = 0;
     while i < order.len() {
-        if size[i] > 5 {
+        if size[i] as usize > LIMIT {
+            jumps += (last + size[last] as usize <= i) as u32;
+            kinds[order[i] as usize] = jumps;
+            last = i;
             i += 1;
             continue;
         }
@@ -232,10 +244,9 @@ fn lay_groups(
         let at = 3 * count as usize;
         groups[at] = i as u32;
         groups[at + 1] = number(&depth[i..end]);
-        groups[at + 2] = if i == 0 {
-            TOP
-        } else {
-            order[above[i] as usize]
+        groups[at + 2] = match above[i] {
+            TOP => TOP,
+            p => order[p as usize],
         };
         for (local, &v) in order[i..end].iter().enumerate() {
             kinds[v as usize] = MICRO + 8 * count + local as u32;
@@ -244,45 +255,32 @@ fn lay_groups(
         i = end;
     }
     groups[3 * count as usize..].fill(0);
-    count
+    (count, jumps + (size[0] as usize > LIMIT) as u32)
 }
 
-/// KIND of the other entries, and JUMPS. Answers the number of jump entries.
+/// JUMPS: of the entries that lead to one jump entry that entry stands last.
+#[allow(clippy::too_many_arguments)]
 fn lay_jumps(
     order: &[u32],
-    size: &[u32],
-    depth: &[u32],
-    kinds: &mut [u32],
+    kinds: &[u32],
+    depths: &[u32],
     ladpos: &[u32],
     ladders: &[u32],
+    nodes: &mut [u32],
+    count: u32,
     jumps: &mut [u32],
-) -> u32 {
-    let mut lay = |j: usize, number: usize| {
-        let record = &mut jumps[21 * number..][..21];
-        lay_record(order[j], depth[j], ladpos, ladders, record);
-    };
-    let mut count = 0;
-    // The last entry of size 6 or more so far: a jump entry if the next one lies past its family.
-    let mut last = None;
-    for i in 0..order.len() {
-        if size[i] < 6 {
-            continue;
+) {
+    for &v in order {
+        let kind = kinds[v as usize];
+        if kind < MICRO {
+            nodes[kind as usize] = v;
         }
-        if let Some(j) = last {
-            if j + size[j] as usize <= i {
-                lay(j, count);
-                count += 1;
-            }
-        }
-        kinds[order[i] as usize] = count as u32;
-        last = Some(i);
     }
-    if let Some(j) = last {
-        lay(j, count);
-        count += 1;
+    let (records, rest) = jumps.split_at_mut(21 * count as usize);
+    for (record, &v) in records.chunks_exact_mut(21).zip(nodes.iter()) {
+        lay_record(v, depths[v as usize], ladpos, ladders, record);
     }
-    jumps[21 * count..].fill(0);
-    count as u32
+    rest.fill(0);
 }
 
 /// A jump entry's depth, and its ancestors 1, 2, 4, .. above, each by a ladder from the one before.

@@ -1,7 +1,8 @@
-//! The five questions on a table of any contents.
+//! The five questions on a table of any contents. Each end of a lookup has its own list of cells, so that nothing is held on to
+//! up to an end that all have in common.
 
-use crate::shapes::{NONE, SHAPES};
-use crate::{Sections, MICRO, MOST};
+use crate::shapes::{COUNT, LIMIT, NONE, ROWS};
+use crate::{Sections, HEADER, MICRO, MOST};
 
 /// An answer: its number and result word, the cells read and their count.
 #[derive(Clone, Copy, Debug, PartialEq, Eq)]
@@ -18,167 +19,161 @@ pub(crate) type Refusal = (u32, u32);
 
 pub(crate) const BROKEN: Refusal = (9, 0);
 
-/// A table as a question reads it: each read is noted.
-pub(crate) struct Reader<'a> {
-    table: &'a [u32],
-    cells: [u32; 15],
-    count: usize,
-}
-
-/// Reading a table's cells.
-pub(crate) trait Reads {
-    fn read(&mut self, cell: usize) -> u32;
-
-    /// A word of a section of so many cells, or 9 where the index leaves it.
-    fn read_in(&mut self, start: usize, cells: usize, index: usize) -> Result<u32, Refusal> {
-        if index >= cells {
-            return Err(BROKEN);
-        }
-        Ok(self.read(start + index))
+/// An answer with these cells.
+#[inline(always)]
+pub(crate) fn end((number, word): (u32, u32), list: &[u32]) -> Answer {
+    let mut cells = [0; 15];
+    cells[..list.len()].copy_from_slice(list);
+    Answer {
+        number,
+        word,
+        cells,
+        count: list.len() as u32,
     }
 }
 
-impl Reads for Reader<'_> {
-    fn read(&mut self, cell: usize) -> u32 {
-        self.cells[self.count] = cell as u32;
-        self.count += 1;
-        self.table[cell]
-    }
-}
-
-/// A table whose reads are not noted.
-impl Reads for &[u32] {
-    fn read(&mut self, cell: usize) -> u32 {
-        self[cell]
-    }
-}
-
-impl<'a> Reader<'a> {
-    pub(crate) fn new(table: &'a [u32]) -> Self {
-        Reader {
-            table,
-            cells: [0; 15],
-            count: 0,
-        }
-    }
-
-    /// Step 1.
-    pub(crate) fn open(&mut self) -> Result<Sections, Refusal> {
-        open(self, self.table.len())
-    }
-
-    pub(crate) fn answer(self, result: Result<u32, Refusal>) -> Answer {
-        let (number, word) = match result {
-            Ok(word) => (0, word),
-            Err(refusal) => refusal,
-        };
-        Answer {
-            number,
-            word,
-            cells: self.cells,
-            count: self.count as u32,
-        }
-    }
-}
-
-/// Step 1, of a table of so many words.
-pub(crate) fn open(r: &mut impl Reads, len: usize) -> Result<Sections, Refusal> {
-    if len < 4 {
-        return Err(BROKEN);
-    }
-    let n = r.read(0) as usize;
-    let s = Sections { n };
-    if n == 0 || n > MOST || len < s.words() {
-        return Err(BROKEN);
-    }
-    Ok(s)
-}
-
-pub(crate) fn known(word: u32, s: Sections) -> Result<u32, Refusal> {
-    if word as usize >= s.n {
-        Err(BROKEN)
+/// A word that is to be an entry, as a result.
+#[inline(always)]
+pub(crate) fn class(w: u32, s: Sections) -> (u32, u32) {
+    if (w as usize) < s.n {
+        (0, w)
     } else {
-        Ok(word)
+        BROKEN
     }
 }
 
-/// Steps 2 to 4: the ancestor of v at the depth that is wanted of an entry of v's depth, or 8 where there is none.
-#[inline(always)]
-fn look(
-    r: &mut Reader,
-    s: Sections,
-    v: u32,
-    wanted: impl FnOnce(u32) -> Option<u32>,
-) -> Result<u32, Refusal> {
-    if v as usize >= s.n {
-        return Err((7, v));
-    }
-    let depth = known(r.read(s.depth() + v as usize), s)?;
-    let d = wanted(depth).ok_or((8, v))?;
-    ancestor_at(r, s, v, depth, d)
+/// Step 1: a table that is not broken, and its sections. Every cell of a section is then a cell of the table.
+#[derive(Clone, Copy)]
+pub(crate) struct Opened<'a> {
+    table: &'a [u32],
+    pub(crate) s: Sections,
 }
 
-/// Steps 3 and 4: the ancestor at depth d of v, which has that depth.
+impl<'a> Opened<'a> {
+    #[inline(always)]
+    pub(crate) fn new(table: &'a [u32]) -> Option<Opened<'a>> {
+        let n = table.first()?.wrapping_sub(HEADER) as usize;
+        let s = Sections { n };
+        if table.len() < 4 || n == 0 || n > MOST || table.len() < s.words() {
+            return None;
+        }
+        Some(Opened { table, s })
+    }
+
+    /// The word of a cell of a section.
+    #[inline(always)]
+    pub(crate) fn word(self, cell: u32) -> u32 {
+        debug_assert!((cell as usize) < self.s.words());
+        // SAFETY: the cell is one of a section, and the table has W words or more.
+        unsafe { *self.table.get_unchecked(cell as usize) }
+    }
+
+    /// A jump entry's first cell, and its depth, where there is such a record.
+    #[inline(always)]
+    fn record(self, kind: u32) -> Option<(u32, u32)> {
+        if kind as usize >= self.s.records() {
+            return None;
+        }
+        let cell = self.s.jumps() as u32 + 21 * kind;
+        Some((cell, self.word(cell)))
+    }
+}
+
+/// What a table that step 1 calls broken gives: cell 0 is read if there are four words.
+fn unopened(table: &[u32]) -> Answer {
+    end(BROKEN, if table.len() < 4 { &[] } else { &[0] })
+}
+
+/// Steps 1 to 4: the ancestor of v at the depth that is wanted of an entry of v's depth, or 8 where there is none.
 #[inline(always)]
-pub(crate) fn ancestor_at(
-    r: &mut impl Reads,
-    s: Sections,
-    v: u32,
-    depth: u32,
-    d: u32,
-) -> Result<u32, Refusal> {
+pub(crate) fn look(table: &[u32], v: u32, wanted: impl FnOnce(u32) -> Option<u32>) -> Answer {
+    let Some(t) = Opened::new(table) else {
+        return unopened(table);
+    };
+    let n = t.s.n as u32;
+    if v >= n {
+        return end((7, v), &[0]);
+    }
+    let c1 = t.s.depth() as u32 + v;
+    let depth = t.word(c1);
+    if depth >= n {
+        return end(BROKEN, &[0, c1]);
+    }
+    let Some(d) = wanted(depth) else {
+        return end((8, v), &[0, c1]);
+    };
     if d == depth {
-        return Ok(v);
+        return end((0, v), &[0, c1]);
     }
-    let mut kind = r.read(s.kind() + v as usize);
-    if kind >= MICRO {
-        let group = ((kind - MICRO) / 8) as usize;
-        let local = (kind % 8) as usize;
-        if group >= s.n {
-            return Err(BROKEN);
-        }
-        let at = s.groups() + 3 * group;
-        let shape = r.read(at + 1) as usize;
-        let shape = SHAPES.get(shape).ok_or(BROKEN)?;
-        if local >= shape.entries as usize {
-            return Err(BROKEN);
-        }
-        let k = shape.depth[local] as u32;
-        if depth - d <= k {
-            let reached = shape.climb[local][(depth - d) as usize];
-            debug_assert_ne!(reached, NONE);
-            let position = r.read(at) as usize;
-            let w = r.read_in(s.order(), s.n, position + reached as usize)?;
-            return known(w, s);
-        }
-        let p = known(r.read(at + 2), s)?;
-        if depth < k + 1 + d {
-            return Err(BROKEN);
-        }
-        if depth - k - 1 == d {
-            return Ok(p);
-        }
-        kind = r.read(s.kind() + p as usize);
-        if kind >= MICRO {
-            return Err(BROKEN);
-        }
+    let c2 = t.s.kind() as u32 + v;
+    let kind = t.word(c2);
+    if kind < MICRO {
+        return jump(t, d, kind, [0, c1, c2]);
     }
-    let jumps = 21 * (s.n / 6);
-    let record = 21 * kind as usize;
-    let deep = known(r.read_in(s.jumps(), jumps, record)?, s)?;
-    if deep <= d {
-        return Err(BROKEN);
+    let group = (kind - MICRO) / 8;
+    if group >= n {
+        return end(BROKEN, &[0, c1, c2]);
+    }
+    let first = t.s.groups() as u32 + 3 * group;
+    let c3 = first + 1;
+    let shape = t.word(c3) as usize;
+    if shape >= COUNT {
+        return end(BROKEN, &[0, c1, c2, c3]);
+    }
+    let row = u64::from_le_bytes(ROWS[shape][(kind % 8) as usize]);
+    if row as u8 == NONE {
+        return end(BROKEN, &[0, c1, c2, c3]);
+    }
+    let k = (row >> (8 * LIMIT)) as u32;
+    let climbs = depth - d;
+    if climbs <= k {
+        let place = u64::from(t.word(first)) + u64::from((row >> (8 * climbs)) as u8);
+        if place >= u64::from(n) {
+            return end(BROKEN, &[0, c1, c2, c3, first]);
+        }
+        let c5 = t.s.order() as u32 + place as u32;
+        return end(class(t.word(c5), t.s), &[0, c1, c2, c3, first, c5]);
+    }
+    let c4 = first + 2;
+    let p = t.word(c4);
+    if p >= n {
+        return end(BROKEN, &[0, c1, c2, c3, c4]);
+    }
+    if climbs == k + 1 {
+        return end((0, p), &[0, c1, c2, c3, c4]);
+    }
+    let c5 = t.s.kind() as u32 + p;
+    jump(t, d, t.word(c5), [0, c1, c2, c3, c4, c5])
+}
+
+/// Step 4, behind these cells.
+#[inline(always)]
+fn jump<const K: usize>(t: Opened, d: u32, kind: u32, before: [u32; K]) -> Answer {
+    let n = t.s.n as u32;
+    let mut list = [0; 10];
+    list[..K].copy_from_slice(&before);
+    let Some((cell, deep)) = t.record(kind) else {
+        return end(BROKEN, &list[..K]);
+    };
+    list[K] = cell;
+    if deep >= n || deep <= d {
+        return end(BROKEN, &list[..K + 1]);
     }
     let gap = deep - d;
-    let e = 31 - gap.leading_zeros();
-    let w = known(r.read_in(s.jumps(), jumps, record + 1 + e as usize)?, s)?;
-    let place = r.read(s.ladpos() + w as usize);
-    let missing = gap - (1 << e);
-    if place < missing {
-        return Err(BROKEN);
+    let e = gap.ilog2();
+    list[K + 1] = cell + 1 + e;
+    let w = t.word(cell + 1 + e);
+    if w >= n {
+        return end(BROKEN, &list[..K + 2]);
     }
-    let class = r.read_in(s.ladders(), 2 * s.n, (place - missing) as usize)?;
-    known(class, s)
+    list[K + 2] = t.s.ladpos() as u32 + w;
+    let place = t.word(list[K + 2]);
+    let missing = gap - (1 << e);
+    if place < missing || place - missing >= 2 * n {
+        return end(BROKEN, &list[..K + 3]);
+    }
+    list[K + 3] = t.s.ladders() as u32 + (place - missing);
+    end(class(t.word(list[K + 3]), t.s), &list[..K + 4])
 }
 
 /// The level lookup's depth: d, of an entry that is at least as deep.
@@ -189,33 +184,25 @@ fn at_depth(d: u32) -> impl FnOnce(u32) -> Option<u32> {
 /// The class of v at depth d.
 #[inline(never)]
 pub fn level(table: &[u32], v: u32, d: u32) -> Answer {
-    let mut r = Reader::new(table);
-    let result = r.open().and_then(|s| look(&mut r, s, v, at_depth(d)));
-    r.answer(result)
+    look(table, v, at_depth(d))
 }
 
 /// The entry k above v.
 #[inline(never)]
 pub fn climb(table: &[u32], v: u32, k: u32) -> Answer {
-    let mut r = Reader::new(table);
-    let result = r
-        .open()
-        .and_then(|s| look(&mut r, s, v, |depth| depth.checked_sub(k)));
-    r.answer(result)
+    look(table, v, |depth| depth.checked_sub(k))
 }
 
-/// The class of v at rating level d, or v where it is less deep, as a reader finds it.
-pub(crate) fn rated(r: &mut Reader, v: u32, d: u32) -> Result<u32, Refusal> {
-    r.open()
-        .and_then(|s| look(r, s, v, |depth| Some(d.min(depth))))
+/// The class of v at rating level d, or v where it is less deep.
+#[inline(always)]
+pub(crate) fn rated(table: &[u32], v: u32, d: u32) -> Answer {
+    look(table, v, |depth| Some(d.min(depth)))
 }
 
 /// The class of v at rating level d, or v where it is less deep.
 #[inline(never)]
 pub fn rating(table: &[u32], v: u32, d: u32) -> Answer {
-    let mut r = Reader::new(table);
-    let result = rated(&mut r, v, d);
-    r.answer(result)
+    rated(table, v, d)
 }
 
 /// 7 with the first of two that is no entry.
@@ -226,41 +213,47 @@ pub(crate) fn both_known(s: Sections, u: u32, v: u32) -> Result<(), Refusal> {
     }
 }
 
-/// Whether u is at or above v, with u and v known.
-fn relate(r: &mut Reader, u: u32, v: u32) -> Result<(Sections, bool), Refusal> {
-    let s = r.open()?;
-    both_known(s, u, v)?;
-    let start = r.read(s.pre() + u as usize) as u64;
-    let size = r.read(s.size() + u as usize) as u64;
-    let place = r.read(s.pre() + v as usize) as u64;
-    Ok((s, start <= place && place < start + size))
+/// The cells by which u is at or above v, and whether it is; or an answer.
+#[inline(always)]
+fn relate<'a>(table: &'a [u32], u: u32, v: u32) -> Result<(Opened<'a>, [u32; 4], bool), Answer> {
+    let t = Opened::new(table).ok_or_else(|| unopened(table))?;
+    both_known(t.s, u, v).map_err(|refusal| end(refusal, &[0]))?;
+    let (pre, size) = (t.s.pre() as u32, t.s.size() as u32);
+    let cells = [0, pre + u, size + u, pre + v];
+    let [start, size, place] = [cells[1], cells[2], cells[3]].map(|c| u64::from(t.word(c)));
+    Ok((t, cells, start <= place && place < start + size))
 }
 
 /// Whether u is at or above v: 1 or 0.
 #[inline(never)]
 pub fn ancestry(table: &[u32], u: u32, v: u32) -> Answer {
-    let mut r = Reader::new(table);
-    let result = relate(&mut r, u, v).map(|(_, above)| above as u32);
-    r.answer(result)
+    match relate(table, u, v) {
+        Ok((_, cells, above)) => end((0, above as u32), &cells),
+        Err(answer) => answer,
+    }
 }
 
 /// The child of u on the way to v.
 #[inline(never)]
 pub fn branch(table: &[u32], u: u32, v: u32) -> Answer {
-    let mut r = Reader::new(table);
-    let result = towards(&mut r, u, v);
-    r.answer(result)
-}
-
-fn towards(r: &mut Reader, u: u32, v: u32) -> Result<u32, Refusal> {
-    let (s, above) = relate(r, u, v)?;
+    let (t, [a, b, c, d], above) = match relate(table, u, v) {
+        Ok(related) => related,
+        Err(answer) => return answer,
+    };
     if !above || u == v {
-        return Err((10, u));
+        return end((10, u), &[a, b, c, d]);
     }
-    let depth = known(r.read(s.depth() + u as usize), s)?;
-    let s = r.open()?;
-    look(r, s, v, at_depth(depth + 1)).map_err(|refusal| match refusal {
-        (8, _) => BROKEN,
-        other => other,
-    })
+    let cell = t.s.depth() as u32 + u;
+    let depth = t.word(cell);
+    if depth as usize >= t.s.n {
+        return end(BROKEN, &[a, b, c, d, cell]);
+    }
+    let mut answer = look(table, v, at_depth(depth + 1));
+    if answer.number == 8 {
+        (answer.number, answer.word) = BROKEN;
+    }
+    answer.cells.copy_within(..10, 5);
+    answer.cells[..5].copy_from_slice(&[a, b, c, d, cell]);
+    answer.count += 5;
+    answer
 }

@@ -1,8 +1,8 @@
 //! Sheets with bands: a sheet is read once, sorted, and swept beside the entries that it is to cover; a quotation finds
 //! its band by binary search.
 
-use crate::premium::{at_rate, size, Quote, MOST_RATE, MOST_SUM};
-use crate::questions::{rated, Reader, Refusal};
+use crate::premium::{at_rate, priced, size, Quote, MOST_RATE, MOST_SUM};
+use crate::questions::{Opened, Refusal, BROKEN};
 
 /// The most lines of a sheet.
 const MOST_LINES: usize = 4_096;
@@ -149,7 +149,7 @@ pub struct Sheet {
 /// Checks a sheet of rating level d.
 #[inline(never)]
 pub fn sheet(table: &[u32], text: &[u8], d: u32) -> Result<Sheet, Fault> {
-    let sections = Reader::new(table).open()?;
+    let sections = Opened::new(table).ok_or(BROKEN)?.s;
     let depths = &table[sections.depth()..][..sections.n];
     let mut bands = read(text, depths, d)?;
     bands.sort_unstable_by_key(|b| key(b.class, b.from));
@@ -185,28 +185,14 @@ impl Sheet {
     /// The premium of a sum for v, at the level that the sheet was checked for.
     #[inline(never)]
     pub fn quote(&self, table: &[u32], v: u32, sum: i64) -> Quote {
-        let mut r = Reader::new(table);
-        let class = rated(&mut r, v, self.level).map_err(Fault::from);
-        quote(r, class.and_then(|c| Ok((c, self.cents(c, sum)?))))
+        priced(table, v, self.level, |class| self.cents(class, sum))
     }
 }
 
 /// The premium of a sum for v at rating level d, by a sheet as text.
 #[inline(never)]
 pub fn price(table: &[u32], text: &[u8], v: u32, d: u32, sum: i64) -> Quote {
-    let mut r = Reader::new(table);
-    let class = rated(&mut r, v, d).map_err(Fault::from);
-    quote(
-        r,
-        class.and_then(|c| Ok((c, sheet(table, text, d)?.cents(c, sum)?))),
-    )
-}
-
-/// The quote of a reader that found a class and its cents, or was refused.
-fn quote(r: Reader, priced: Result<(u32, i64), Fault>) -> Quote {
-    Quote {
-        answer: r.answer(priced.map(|p| p.0).map_err(|f| (f.number, f.word))),
-        amount: priced.map_or_else(|f| f.amount, |_| 0),
-        cents: priced.map_or(0, |p| p.1),
-    }
+    priced(table, v, d, |class| {
+        sheet(table, text, d)?.cents(class, sum)
+    })
 }

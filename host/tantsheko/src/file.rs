@@ -6,7 +6,8 @@ use std::io::{self, BufWriter, Write};
 use std::path::{Path, PathBuf};
 
 const MAGIC: &[u8; 8] = b"TANTSHEK";
-const VERSION: u32 = 1;
+/// Version 1 had groups of up to five entries; since version 2 they have up to seven.
+const VERSION: u32 = 2;
 const HEADER: usize = 24;
 
 /// A sum over the words in which no change of one word can hide: each step is one to one in the sum and in the word.
@@ -91,10 +92,11 @@ pub fn read(path: &Path) -> Result<Table, String> {
         .map(|b| u32::from_le_bytes(b.try_into().unwrap()))
         .collect();
     let sum = u64::from_le_bytes(bytes[16..24].try_into().unwrap());
-    if sum != checksum(&words) || words[0] != n {
+    let table = Table::from_words(words);
+    if sum != checksum(table.words()) || table.entries() != n {
         return Err("is damaged: its checksum is wrong; prepare it again".to_string());
     }
-    Ok(Table::from_words(words))
+    Ok(table)
 }
 
 /// Why the system refused, without its number.

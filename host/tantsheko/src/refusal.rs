@@ -145,7 +145,10 @@ impl fmt::Display for Refusal {
             Refusal::Loop(v) => write!(f, "entry {v} never reaches the top"),
             Refusal::Unknown(v) => write!(f, "{v} is not an entry of the table"),
             Refusal::TooDeep(v) => write!(f, "entry {v} is less deep than that"),
-            Refusal::Broken => write!(f, "the table is damaged: prepare it again"),
+            Refusal::Broken => write!(
+                f,
+                "the table is damaged, or an older program made it: prepare it again"
+            ),
             Refusal::NotAbove(u) => write!(f, "entry {u} is not above the other entry"),
             Refusal::BadRate => write!(
                 f,

@@ -7,6 +7,9 @@ use std::mem::MaybeUninit;
 /// The most entries of a list.
 pub const MOST_ENTRIES: usize = 1_048_576;
 
+/// What cell 0 holds beside the number of entries. Tables of groups of up to five entries held the number alone.
+const HEADER_MARK: u32 = 1_073_741_824;
+
 /// The word of the top in a parent list.
 pub const TOP: u32 = u32::MAX;
 
@@ -100,9 +103,10 @@ impl Table {
         &self.words
     }
 
-    /// How many entries the table says it has.
+    /// How many entries the table says it has: 0 where cell 0 is that of no table, or of an older one.
     pub fn entries(&self) -> u32 {
-        self.words.first().copied().unwrap_or(0)
+        let cell = self.words.first().copied().unwrap_or(0);
+        cell.saturating_sub(HEADER_MARK)
     }
 
     #[inline]

@@ -13,7 +13,7 @@ fn from_text_to_price_list() {
     assert_eq!(f.names(), ["list", "table"]);
     assert_eq!(
         f.ok(&["class", "table", "7", "1", "--cells"], ""),
-        "1\ncells 0 11 19 69 70 14 92 93 21 53\n"
+        "1\ncells 0 11 19 69 68 29\n"
     );
     assert_eq!(f.ok(&["climb", "table", "7", "2"], ""), "5\n");
     assert_eq!(f.ok(&["above", "table", "2", "5"], ""), "yes\n");
@@ -56,9 +56,9 @@ fn a_stream_of_questions() {
     f.ok(&["prepare", "list", "table"], "");
     let questions =
         "7,1\n7,8\n8,0\nclass,7,5\nclimb,7,2\nrating,7,1\nrating,2,7\nrating,8,0\nabove,2,5\nbranch,2,5\nbranch,5,2\n";
-    let answers = "7,1,0,1,10\n7,8,8,-,2\n8,0,7,-,1\nclass,7,5,0,5,6\nclimb,7,2,0,5,6\nrating,7,1,0,1,10\nrating,2,7,0,2,2\nrating,8,0,7,-,1\nabove,2,5,0,1,4\nbranch,2,5,0,3,11\nbranch,5,2,10,-,4\n";
+    let answers = "7,1,0,1,6\n7,8,8,-,2\n8,0,7,-,1\nclass,7,5,0,5,6\nclimb,7,2,0,5,6\nrating,7,1,0,1,6\nrating,2,7,0,2,2\nrating,8,0,7,-,1\nabove,2,5,0,1,4\nbranch,2,5,0,3,11\nbranch,5,2,10,-,4\n";
     assert_eq!(f.ok(&["batch", "table"], questions), answers);
-    assert_eq!(f.ok(&["batch", "table"], "7,1"), "7,1,0,1,10\n");
+    assert_eq!(f.ok(&["batch", "table"], "7,1"), "7,1,0,1,6\n");
     for bad in [
         "7",
         "7,x",
@@ -72,7 +72,7 @@ fn a_stream_of_questions() {
         let (status, out, err) = f.run(&["batch", "table"], &format!("7,1\n{bad}\n7,5\n"));
         let text =
             format!("tantsheko: line 2: `{bad}` is not a question; see `tantsheko batch --help`\n");
-        assert_eq!((status, out.as_str(), err), (1, "7,1,0,1,10\n", text));
+        assert_eq!((status, out.as_str(), err), (1, "7,1,0,1,6\n", text));
     }
 }
 
@@ -257,6 +257,36 @@ fn every_damaged_byte_is_seen() {
             "length {length}"
         );
     }
+}
+
+/// Ten cells are read in a chain of ten: over a group, and by a jump entry.
+#[test]
+fn the_longest_lookup() {
+    let f = Folder::new("longest");
+    f.file("list", "-\n0\n1\n2\n3\n4\n5\n6\n7\n8\n");
+    f.ok(&["prepare", "list", "table"], "");
+    for (entry, depth, out) in [
+        ("9", "0", "0\ncells 0 13 23 85 86 16 114 116 24 64\n"),
+        ("9", "2", "2\ncells 0 13 23 85 86\n"),
+        ("9", "3", "3\ncells 0 13 23 85 84 37\n"),
+        ("2", "0", "0\ncells 0 6 16 114 116 24 64\n"),
+    ] {
+        assert_eq!(f.ok(&["class", "table", entry, depth, "--cells"], ""), out);
+    }
+}
+
+/// A table file of version 1, of groups of up to five entries.
+#[test]
+fn an_older_table_file() {
+    let f = Folder::new("older");
+    f.file("list", CHAIN);
+    f.ok(&["prepare", "list", "table"], "");
+    let mut bytes = fs::read(f.0.join("table")).unwrap();
+    bytes[8..12].copy_from_slice(&1u32.to_le_bytes());
+    fs::write(f.0.join("old"), &bytes).unwrap();
+    let why = "old is a table of version 1, and this program reads version 2: prepare it again";
+    f.fails(&["class", "old", "7", "1"], 1, why);
+    f.fails(&["check", "old", "list"], 1, why);
 }
 
 #[test]

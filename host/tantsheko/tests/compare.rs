@@ -41,6 +41,7 @@ fn whole(parents: &[u32]) -> Option<Vec<u32>> {
 fn same_answers(table: &Table, a: u32, b: u32) {
     let words = table.words();
     same(table.level(a, b), reference::level(words, a, b));
+    same(table.level(a, b), reference::level_by_steps(words, a, b));
     same(table.climb(a, b), reference::climb(words, a, b));
     same(table.rating(a, b), reference::rating(words, a, b));
     same(table.ancestry(a, b), reference::ancestry(words, a, b));
@@ -240,6 +241,47 @@ fn damaged_tables() {
             let short = Table::from_words(words[..length].to_vec());
             same_answers(&short, 0, 0);
             same_premium(&short, &rates, 0, 0, 25);
+        }
+    }
+}
+
+/// Cell 0 as an older table has it, the number of entries alone: every question finds the table broken, whatever else it holds.
+#[test]
+fn older_tables() {
+    let mut seed = 6;
+    for k in 0..70usize {
+        let n = 1 + below(&mut seed, 60) as usize;
+        let mut words = whole(&tree(k, n, &mut seed, true)).expect("a tree");
+        words[0] = n as u32;
+        let table = Table::from_words(words);
+        assert_eq!(table.entries(), 0);
+        for v in 0..=n as u32 {
+            for question in [
+                Table::level,
+                Table::climb,
+                Table::rating,
+                Table::ancestry,
+                Table::branch,
+            ] {
+                let answer = question(&table, v, 0);
+                assert_eq!(
+                    (answer.result(), answer.cells()),
+                    (Err(Refusal::Broken), &[0][..])
+                );
+            }
+            for question in [Table::nearest_common_ancestor, Table::distance] {
+                let answer = question(&table, v, 0);
+                assert_eq!(
+                    (answer.result(), answer.cells()),
+                    (Err(Refusal::Broken), &[][..])
+                );
+            }
+            same_answers(&table, v, 0);
+            assert_eq!(
+                table.premium(&[0; 60], v, 0, 25).result(),
+                Err(Refusal::Broken)
+            );
+            assert_eq!(table.sheet_lines(b"", 0), Err(Refusal::Broken));
         }
     }
 }

@@ -12,10 +12,10 @@ use Rattle.plain_steps.specs.Strings.{stepsBack, closes, goesRound}
 pub record Left (string rest ups : ℕ) : Type 0 where
   pub steps : ℕ
   pub enough : rest ≤ steps
-  pub few : ups + rest < 512
+  pub few : ups + rest < 8192
   pub same : closes (stepsBack steps rest) ups ≡ goesRound string
 
-pub start : (string : ℕ) → string < 512 → Left string string 0
+pub start : (string : ℕ) → string < 8192 → Left string string 0
 start string h = record { steps = string; enough = omega arith; few = omega arith; same = refl }
 
 -- one step back, where m more are left at most

@@ -9,7 +9,7 @@ use borrow.Rule.Slice.PartMut.{mid-len, midOf, putMid}
 use lib.ListN.{length, getD, take, replicate, length-replicate, length-take}
 use lib.Seq.{take-all, take-suc}
 use Rattle.base.specs.Lists.{view, put, padded}
-use Rattle.base.specs.Limits.{groupLimit, jumpRoom, recordWords, tableWords}
+use Rattle.base.specs.Limits.{groupLimit, headerOf, jumpRoom, recordWords, tableWords}
 use Rattle.base.proofs.Lists.{below-at, drop-zeros}
 use Rattle.base.proofs.Places.{stands}
 use Rattle.base.proofs.Filters.{keep-in}
@@ -146,11 +146,11 @@ module _ {ps t : List ℕ} (one : OneTree ps) (s : Sectioned ps t) (long : lengt
 
   -- with the header, the whole table
   pub finished : (t₁ t₂ : List ℕ) (jumps groups paths : ℕ) → jumps ≡ length (jumpNodes groupLimit ps) → groups ≡ length (groupRoots groupLimit ps) → paths ≡ length (pathTops ps)
-      → t₁ ≡ put t first (jumpCells ps) → t₂ ≡ put t₁ 0 (length ps ∷ jumps ∷ groups ∷ paths ∷ []) → t₂ ≡ tableOf ps
+      → t₁ ≡ put t first (jumpCells ps) → t₂ ≡ put t₁ 0 (headerOf (length ps) ∷ jumps ∷ groups ∷ paths ∷ []) → t₂ ≡ tableOf ps
   unfolding header
   finished t₁ t₂ jumps groups paths ej eg ep e₁ e₂ =
       let m = recordWords * jumpRoom (length ps) in
-      let h = length ps ∷ jumps ∷ groups ∷ paths ∷ [] in
+      let h = headerOf (length ps) ∷ jumps ∷ groups ∷ paths ∷ [] in
       let wide : length (jumpCells ps) ≡ m = jump-cells-length ps (small one) (one .tree) in
       let l₁ = put t first (jumpCells ps) in
       let b₀ : first + length (jumpCells ps) ≤ length t = omega arith in

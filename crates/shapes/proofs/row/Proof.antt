@@ -1,38 +1,34 @@
--- `shapes::row` meets its contract: each arm has its row of the shape's, and past the fifth there is none. Assumes nothing.
-use mathlib.Core.Path.{_≡_, sym, ap, _∙_}
-use mathlib.Core.List.{List, []}
-use Prim.Native.Nat.{ℕ, _<_}
-use native.Mathlib.Omega.{arith}
-use lib.Dec.{lit<}
-use lib.ListN.{getD}
+-- `shapes::row` meets its contract: each cell is the table's. Assumes nothing.
+use mathlib.Core.Path.{_∙_}
 use borrow.Author.Needs.{needs}
-use Rattle.base.specs.Limits.{groupLimit}
-use Rattle.base.specs.Lists.{each}
-use Rattle.base.proofs.Arms.{past}
-use Rattle.shapes.specs.Climbs.{rowOf, rowsOf}
-use Rattle.shapes.proofs.Rule.{row-is}
-use Rattle.shapes.proofs.Heights.{row-past}
+use Rattle.shapes.specs.Climbs.{rowOf}
+use Rattle.shapes.proofs.Sevens.{seven}
 use Rattle.shapes.proofs.row.Statement.{statement}
 use Rattle.shapes.proofs.row.Tie as tie
 
--- the arm of number i
-own : (s : ℕ) {l : ℕ} {all : List (List ℕ)} (i : ℕ) → all ≡ rowsOf groupLimit s → i < groupLimit → l ≡ i → getD all i [] ≡ rowOf groupLimit s l
-own s {l} {all} i e h q = ap (λ r. getD r i []) e ∙ row-is groupLimit s i h ∙ ap (rowOf groupLimit s) (sym q)
+-- each cell is the packed row's, and so the table's
+returns : tie.Need-returns
+unfolding rowOf
+returns c =
+    let c6 = c .before in
+    let c5 = c6 .before in
+    let c4 = c5 .before in
+    let c3 = c4 .before in
+    let c2 = c3 .before in
+    let c1 = c2 .before in
+    let cells = c1 .before .climbs-of .ensures .cells in
+    seven _ (c1 .reached .ensures ∙ cells 0) (c2 .reached2 .ensures ∙ cells 1) (c3 .reached3 .ensures ∙ cells 2) (c4 .reached4 .ensures ∙ cells 3) (c5 .reached5 .ensures ∙ cells 4) (c6 .reached6 .ensures ∙ cells 5) (c .reached7 .ensures ∙ cells 6)
 
 pub row-spec : {M : Type 1} → statement M
-unfolding each
 row-spec =
     tie.close
     (tie.spec
     (λ c κs. search needs)
-    (λ c. search needs)
-    (λ c. search needs)
-    (λ c. search needs)
-    (λ c. search needs)
-    (λ c. search needs)
-    (λ c. let at = c .before in own _ 0 (at .before .rows .ensures .0) (lit< tt) (at .match .keys1))
-    (λ c. let at = c .before in own _ 1 (at .before .rows .ensures .0) (lit< tt) (at .match .keys2))
-    (λ c. let at = c .before in own _ 2 (at .before .rows .ensures .0) (lit< tt) (at .match .keys3))
-    (λ c. let at = c .before in own _ 3 (at .before .rows .ensures .0) (lit< tt) (at .match .keys4))
-    (λ c. let at = c .before in own _ 4 (at .before .rows .ensures .0) (lit< tt) (at .match .keys5))
-    (λ c. sym (row-past groupLimit (omega arith) _ _ (past 5 _ (c .match .rest)))))
+    (λ c κs. search needs)
+    (λ c κs. search needs)
+    (λ c κs. search needs)
+    (λ c κs. search needs)
+    (λ c κs. search needs)
+    (λ c κs. search needs)
+    (λ c κs. search needs)
+    returns)

@@ -11,7 +11,7 @@ use Rattle.plain_steps.proofs.strings.noted.Statement.{statement}
 use Rattle.plain_steps.proofs.strings.noted.Tie as tie
 
 -- a short string is a word
-fits : (s : ℕ) → s < 512 → narrowed s ≡ s
+fits : (s : ℕ) → s < 8192 → narrowed s ≡ s
 unfolding narrowed
 fits s h = simp (le-leb s 4294967295 (omega arith))
 

@@ -9,10 +9,10 @@ use Rattle.plain_steps.proofs.strings.shape_strings.Statement.{statemen
 use Rattle.plain_steps.proofs.strings.shape_strings.Tie as tie
 
 abbrev Inv-loop : tie.InvT-loop
-Inv-loop all₀ at₀ string₀ all at string = (length all ≡ 23) × (string ≤ 512) × Listed all at string
+Inv-loop all₀ at₀ string₀ all at string = (length all ≡ 197) × (string ≤ 8192) × Listed all at string
 
 abbrev μ-loop : tie.MeasureT-loop
-μ-loop all₀ at₀ string₀ all at string = 512 - string
+μ-loop all₀ at₀ string₀ all at string = 8192 - string
 
 pub shape-strings-spec : {M : Type 1} → statement M
 shape-strings-spec =

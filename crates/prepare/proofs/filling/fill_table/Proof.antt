@@ -13,13 +13,13 @@ abbrev family : tie.After-path-sections → tie.After-family-sections
 family p = p .before .before .before .before .before
 
 abbrev measured : tie.After-path-sections → tie.After-measure
-measured p = family p .before .before .before .before .before .before .before
+measured p = family p .before .before .before .before .before
 
 abbrev start : tie.After-path-sections → tie.Start
-start p = measured p .before .before .before .before .before .before
+start p = measured p .before .before .before .before .before
 
 kept : (p : tie.After-path-sections) → length (p .path-sections .last .1 .0) ≡ length (start p .args .table .now)
-kept p = p .path-sections .kept .1 .0 ∙ family p .family-sections .kept .1 .0 ∙ measured p .measure .kept .1 .0
+kept p = p .path-sections .kept .1 .0 ∙ family p .family-sections .kept .1 .0
 
 -- and those up to JUMPS
 abbrev path : tie.After-jump-section → tie.After-path-sections
@@ -48,7 +48,7 @@ header-cells-requires c κs =
     let j = c .before .before .before .before .before in
     (path j .path-sections .ensures .1 .0 .one .few, omega (arith, j .jump-section .kept .1 .1 .0, wide (ordered j)))
 
-abbrev laid : tie.After-slice-known11 → tie.After-jump-section
+abbrev laid : tie.After-slice-known10 → tie.After-jump-section
 laid c = c .before .before .before .before .before .before .before .before
 
 returns : tie.Need-returns
@@ -70,5 +70,5 @@ fill-table-spec =
     jump-section-requires
     header-cells-requires
     (λ c. c .before .before .header-cells .kept .1 .1 .1 .0 ∙ laid c .jump-section .kept .1 .1 .0 ∙ ordered (laid c) .order-sections .kept .1 .0 ∙ kept (path (laid c)))
-    (λ c. laid c .jump-section .kept .1 .1 .1 .0 ∙ path (laid c) .path-sections .kept .1 .1 .0 ∙ measured (path (laid c)) .measure .kept .1 .1 .0)
+    (λ c. laid c .jump-section .kept .1 .1 .1 .0 ∙ path (laid c) .path-sections .kept .1 .1 .0 ∙ measured (path (laid c)) .measure .kept .1 .0)
     returns)

@@ -1,5 +1,5 @@
 -- `kinds::kinds` meets its contract: the loop has numbered the entries at the positions before the next, counted their groups, of which the last ends at `end`, and the jump
--- entries before the last position of a size over 5. Assumes nothing.
+-- entries before the last position of a size over 7. Assumes nothing.
 use mathlib.Core.Path.{_≡_, refl, ap, _∙_}
 use mathlib.Core.List.{List}
 use mathlib.Core.Bool.{false}
@@ -66,7 +66,7 @@ entry r = ap (λ l. getD l (at r) 0) (loop r .before .pre .1)
 room : (r : Read) → getD (loop r .before .args .order .now) (at r) 0 < length (loop r .loop .cells)
 room r = written-room (loop r .before .pre .0) (loop r .loop .inv .2 .kinds) (here r) _ (entry r)
 
--- the group of a position of size 5 or less
+-- the group of a position of size 7 or less
 grouped : (c : tie.Joined3 Inv-loop μ-loop) → OpenGroup (list (c .before .before .before .before)) groupLimit (at (c .before .before .before .before)) (c .if3 .groups) (c .if3 .root .0) (c .if3 .end .0)
 grouped c =
     let r = c .before .before .before .before in

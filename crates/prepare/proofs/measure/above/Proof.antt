@@ -1,51 +1,45 @@
--- `measure::above` meets its contract: what is above the positions before `at` is there. Assumes nothing.
-use mathlib.Core.Path.{_≡_, sym, _∙_}
-use Prim.Native.Nat.{_-_, _≤_}
+-- `measure::above` meets its contract: ABOVE is there for the positions before `at`, and the climb from the last of them by depth. Assumes nothing.
+use mathlib.Core.Path.{_≡_, refl, sym, _∙_}
+use Prim.Native.Nat.{ℕ, _+_, _*_, _-_, _≤_, _<_}
 use native.Mathlib.Omega.{arith}
 use borrow.Author.Needs.{needs}
-use lib.ListN.{length, length-set}
-use Rattle.base.specs.Limits.{topMark}
-use Rattle.prepare.specs.Arrays.{entryAt, abovePosition}
-use Rattle.prepare.proofs.Preorder.{entries-some, above-first, array-length, words-array}
-use Rattle.prepare.proofs.spread.Writes.{Ran, ran-more}
+use lib.ListN.{length, getD, set, length-set}
+use Rattle.base.specs.Limits.{mostEntries, topMark}
+use Rattle.prepare.proofs.Preorder.{entries-some}
+use Rattle.prepare.proofs.measure.RootPaths.{AboveTo, above-start, depth-some, depth-few, above-next, above-all}
 use Rattle.prepare.proofs.measure.above.Statement.{statement}
 use Rattle.prepare.proofs.measure.above.Tie as tie
 
 abbrev Inv-loop : tie.InvT-loop
-Inv-loop parents depth cells₀ at₀ cells at =
-    (1 ≤ at .0) × (at .0 ≤ length depth) × (length depth ≡ length parents) × (length cells ≡ length depth) × Ran (λ k. abovePosition parents (entryAt parents k)) (at .0) cells
+Inv-loop parents space₀ n at₀ space at = AboveTo parents (at .0) space
 
 abbrev μ-loop : tie.MeasureT-loop
-μ-loop parents depth cells₀ at₀ cells at = length depth - at .0
+μ-loop parents space₀ n at₀ space at = n - at .0
 
-abbrev start : tie.At-loop Inv-loop μ-loop → tie.Start Inv-loop μ-loop
-start l = l .before .before .before .before
+-- a turn, whose depth is read
+abbrev Turn : Type 0
+Turn = tie.After-slice-known Inv-loop μ-loop
 
-all : (s : tie.Start Inv-loop μ-loop) → (length (s .args .depth .now) ≡ length (s .args .parents .now)) × (1 ≤ length (s .args .depth .now))
-all s = let n = array-length (s .pre .0) _ _ (s .pre .1) in (n, omega (arith, n, entries-some (s .pre .0)))
+abbrev at-loop : Turn → tie.At-loop Inv-loop μ-loop
+at-loop k = k .before .before .before .before
 
-loop-holds : tie.Need-loop-holds Inv-loop μ-loop
-loop-holds c =
-    let s = c .before .before .before in
-    let (n, some) = all s in
-    (omega arith, some, n, length-set (s .args .cells .now) 0 topMark ∙ s .pre .2, ran-more _ 0 (s .args .cells .now) _ (omega (arith, s .pre .2)) (sym (above-first (s .pre .0))) (λ k h. absurd (omega arith)))
+abbrev entries : Turn → ℕ
+entries k = length (at-loop k .before .args .parents .now)
 
-higher-requires : tie.Need-higher-requires Inv-loop μ-loop
-higher-requires c κs =
-    let l = c .before .before .before in
-    let s = start l in
-    (s .pre .0, s .pre .1, l .loop .inv .4, omega arith, omega arith, l .loop .inv .3)
+inv : (k : Turn) → AboveTo (at-loop k .before .args .parents .now) (at-loop k .loop .at .0) (at-loop k .loop .space)
+inv k = at-loop k .loop .inv
 
-loop-again : tie.Need-loop-again Inv-loop μ-loop
-loop-again c =
-    let l = c .before .before .before .before .before .before .loop in
-    (omega arith, omega arith, l .inv .2, length-set (l .cells) _ _ ∙ l .inv .3, ran-more _ (l .at .0) (l .cells) _ (omega (arith, l .inv .3)) (c .before .before .higher .ensures) (l .inv .4))
+less : (k : Turn) → at-loop k .loop .at .0 < entries k
+less k = k .before .before .if1 .taken
 
-returns : tie.Need-returns Inv-loop μ-loop
-returns c =
-    let l = c .before .before in
-    let i = l .loop .inv in
-    words-array (start l .pre .0) _ (l .loop .cells) (i .3 ∙ i .2) (λ k h. i .4 k (omega (arith, i .2)))
+-- what is read and stored in it lies in the space
+fits : (k : Turn) → (let deep = getD (at-loop k .loop .space) (entries k + at-loop k .loop .at .0) 0 in
+    (0 < deep) × (deep < entries k) × (at-loop k .loop .at .0 < entries k) × (entries k ≤ mostEntries) × (length (at-loop k .loop .space) ≡ 6 * entries k))
+fits k = (depth-some (inv k) (less k), depth-few (inv k) (less k), less k, inv k .walked .one .few, inv k .walked .room)
+
+one-set : (k : Turn) → (let l = at-loop k .loop in let n = entries k in
+    length (set (l .space) (3 * n + l .at .0) (getD (l .space) (4 * n + (getD (l .space) (n + l .at .0) 0 - 1)) 0)) ≡ length (l .space))
+one-set k = length-set (at-loop k .loop .space) _ _
 
 pub above-spec : {M : Type 1} → statement M
 above-spec =
@@ -53,15 +47,35 @@ above-spec =
     (tie.spec
     Inv-loop
     μ-loop
-    (λ c. let s = c .before .before .before in omega (arith, s .pre .2, all s .1))
-    loop-holds
+    (λ c. omega (arith, c .pre .room, c .pre .one .few, entries-some (c .pre .one)))
+    (λ c. omega (arith, c .pre .room, c .pre .one .few, entries-some (c .pre .one)))
+    (λ c. omega (arith, c .pre .room, c .pre .one .few, entries-some (c .pre .one)))
+    (λ c. omega (arith, c .pre .room, c .pre .one .few, entries-some (c .pre .one)))
+    (λ c. omega (arith, c .pre .room, c .pre .one .few, entries-some (c .pre .one)))
+    (λ c. omega (arith, c .pre .room, c .pre .one .few, entries-some (c .pre .one), length-set (c .args .space .now) (3 * length (c .args .parents .now)) topMark))
+    (λ c. above-start (c .pre))
     (λ c. search needs)
-    higher-requires
     (λ c. search needs)
     (λ c. search needs)
     (λ c. search needs)
-    (λ c. search needs)
-    (λ c. search needs)
-    loop-again
-    (λ c. c .before .before .loop .inv .3 ∙ sym (start (c .before .before) .pre .2))
-    returns)
+    (λ c. omega (arith, fits c))
+    (λ c. omega (arith, fits c))
+    (λ c. omega (arith, fits c))
+    (λ c. omega (arith, fits c))
+    (λ c. omega (arith, fits c))
+    (λ c. omega (arith, fits c))
+    (λ c. let k = c .before in omega (arith, fits k))
+    (λ c. let k = c .before in omega (arith, fits k))
+    (λ c. let k = c .before .before in omega (arith, fits k))
+    (λ c. let k = c .before .before in omega (arith, fits k))
+    (λ c. let k = c .before .before in omega (arith, fits k))
+    (λ c. let k = c .before .before in omega (arith, fits k))
+    (λ c. let k = c .before .before in omega (arith, fits k))
+    (λ c. let k = c .before .before in omega (arith, fits k))
+    (λ c. let k = c .before .before in omega (arith, fits k))
+    (λ c. let k = c .before .before in omega (arith, fits k, one-set k))
+    (λ c. let k = c .before .before .before in omega (arith, fits k))
+    (λ c. let k = c .before .before .before in omega (arith, fits k))
+    (λ c. let k = c .before .before .before in above-next (inv k) (less k) _ refl)
+    (λ c. c .before .before .loop .inv .walked .room ∙ sym (c .before .before .before .pre .room))
+    (λ c. above-all (omega (arith, c .if1 .left)) (c .before .before .loop .inv)))

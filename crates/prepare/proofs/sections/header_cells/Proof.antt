@@ -1,6 +1,7 @@
 -- `sections::header_cells` meets its contract. Assumes nothing.
 use mathlib.Core.Path.{refl, ap, _∙_}
 use mathlib.Core.List.{[], _∷_}
+use native.Mathlib.Omega.{arith}
 use borrow.Author.Needs.{needs}
 use Rattle.base.proofs.Puts.{lent-back}
 use Rattle.prepare.proofs.sections.header_cells.Statement.{statement}
@@ -18,6 +19,7 @@ header-cells-spec =
     (tie.spec
     (λ c. search needs)
     (λ c κs. search needs)
+    (λ c. omega (arith, c .header-of .ensures))
     (λ c. search needs)
     (λ c. search needs)
     (λ c. search needs)

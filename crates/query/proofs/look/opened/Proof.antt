@@ -30,10 +30,10 @@ opened-spec =
     let t = now (c .before .before .before .before .before .before .before .args .table) in
     let n : c .before .counted .result ≡ countFrom (length t) (entriesOf (got .word)) = c .before .counted .ensures ∙ ap (countFrom (length t)) (c .before .before .entries-of .ensures) in
     record {
-      room = rw n (count-room t (got .word));
+      room = rw n (count-room t (entriesOf (got .word)));
       one = λ h. got-held got _ _ _ 0 (c .before .before .before .read .ensures) (record { list = []; long = refl; is = new }) (lit< tt);
       goes = λ next.
-          let rest : openFrom t (record { n = c .before .counted .result; cells = got .cells }) next ≡ answerFrom t (got .cells) (afterCount (length t) (got .word) next) =
-          rw n (count-goes t (got .cells) (got .word) next) in
+          let rest : openFrom t (record { n = c .before .counted .result; cells = got .cells }) next ≡ answerFrom t (got .cells) (afterCount (length t) (entriesOf (got .word)) next) =
+          rw n (count-goes t (got .cells) (entriesOf (got .word)) next) in
           rw (← new) (search steps);
     }))

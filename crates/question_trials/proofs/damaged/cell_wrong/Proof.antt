@@ -11,7 +11,7 @@ abbrev Inv-loop : tie.InvT-loop
 Inv-loop table₀ strings parents n cell word sum₀ seed₀ i₀ table sum seed i = length table ≡ length table₀
 
 abbrev μ-loop : tie.MeasureT-loop
-μ-loop table₀ strings parents n cell word sum₀ seed₀ i₀ table sum seed i = 12 - i
+μ-loop table₀ strings parents n cell word sum₀ seed₀ i₀ table sum seed i = 15 - i
 
 pub cell-wrong-spec : {M : Type 1} → statement M
 cell-wrong-spec =

@@ -1,5 +1,5 @@
 -- `shapes::numbering::ranked` meets its contract: what is counted and the rank of what is left make the number. Assumes nothing.
-use mathlib.Core.Path.{_≡_, refl}
+use mathlib.Core.Path.{_≡_, refl, sym, ap, _∙_}
 use mathlib.Core.List.{List}
 use Prim.Native.Nat.{ℕ, _+_, _-_, _≤_, _<_}
 use native.Mathlib.Omega.{arith}
@@ -8,32 +8,34 @@ use Rattle.base.specs.Limits.{groupLimit, shapeCount}
 use Rattle.base.specs.Lists.{below}
 use Rattle.base.proofs.Lists.{below-at}
 use Rattle.shapes.specs.Walks.{walks}
+use Rattle.shapes.specs.Packed.{byte}
 use Rattle.shapes.specs.Numbered.{Numbered}
 use Rattle.shapes.proofs.Rank.{ways}
 use Rattle.shapes.proofs.RankTurns.{fall, Ranked, start, small, finish, group-is, due, stepped}
 use Rattle.shapes.proofs.numbering.ranked.Statement.{statement}
 use Rattle.shapes.proofs.numbering.ranked.Tie as tie
 
--- what one turn counts, with the row of ways that it reads
-record Turn (group row : List ℕ) (sum at i : ℕ) : Type 0 where
-  fewer : getD row (fall group i - 1) 0 ≤ getD row at 0
-  next : Ranked groupLimit group (sum + (getD row at 0 - getD row (fall group i - 1) 0)) (fall group i) (i + 1)
-  fits : sum + (getD row at 0 - getD row (fall group i - 1) 0) < shapeCount
+-- what one turn counts: a and b are the ways from the last entry, and from the parent of this
+record Turn (group : List ℕ) (sum at i a b : ℕ) : Type 0 where
+  fewer : b ≤ a
+  next : Ranked groupLimit group (sum + (a - b)) (fall group i) (i + 1)
+  fits : sum + (a - b) < shapeCount
 
 -- what follows from the invariant: a turn; at a depth that no group has next; and at the end
 module _ {group : List ℕ} {sum at i : ℕ} (r : Ranked groupLimit group sum at i) where
-  turn : {row : List ℕ} → i < length group → getD group 0 0 < getD group i 0 → fall group i ≤ at + 1
-      → row ≡ below groupLimit (λ c. length (walks (length group - i) c)) → Turn group row sum at i
-  turn {row} h low high e =
+  turn : (word : ℕ) {a b : ℕ} → i < length group → getD group 0 0 < getD group i 0 → fall group i ≤ at + 1
+      → below (groupLimit - (length group - i)) (byte word) ≡ below (groupLimit - (length group - i)) (λ c. length (walks (length group - i) c))
+      → a ≡ byte word at → b ≡ byte word (fall group i - 1) → Turn group sum at i a b
+  turn word h low high e p q =
       let l : at < i = r .low in
-      let k : length group ≤ 5 = r .few in
-      let u : getD row at 0 ≡ ways (length group - i) at = rw e (below-at groupLimit (ways (length group - i)) 0 at (omega arith)) in
-      let v : getD row (fall group i - 1) 0 ≡ ways (length group - i) (fall group i - 1) =
-      rw e (below-at groupLimit (ways (length group - i)) 0 (fall group i - 1) (omega arith)) in
-      let t = stepped groupLimit group sum at i r h (fall group i) _ _ refl (omega arith) high u v in
+      let k : length group ≤ groupLimit = r .few in
+      let m = groupLimit - (length group - i) in
+      let way : (c : ℕ) → c < m → byte word c ≡ ways (length group - i) c =
+      λ c b. sym (below-at m (byte word) 0 c b) ∙ ap (λ row. getD row c 0) e ∙ below-at m (ways (length group - i)) 0 c b in
+      let t = stepped groupLimit group sum at i r h (fall group i) _ _ refl (omega arith) high (p ∙ way at (omega arith)) (q ∙ way (fall group i - 1) (omega arith)) in
       record { fewer = t .0; next = t .1; fits = small groupLimit group _ _ _ (t .1) }
 
-  refused : i < length group → (getD group 0 0 < getD group i 0 → fall group i ≤ at + 1 → ⊥) → Numbered group 23
+  refused : i < length group → (getD group 0 0 < getD group i 0 → fall group i ≤ at + 1 → ⊥) → Numbered group shapeCount
   refused h never = record { is = λ f d e. let k = due groupLimit group sum at i r h f d e in absurd (never (k .0) (k .1)); small = omega arith; none = λ n. refl }
 
   done : length group ≤ i → Numbered group sum
@@ -74,9 +76,6 @@ returns c = refused (c .before .before .before .loop .inv) (c .before .before .l
 sub-below : tie.Need-sub-below Inv-loop μ-loop
 sub-below c = omega arith
 
-cast-below : tie.Need-cast-below Inv-loop μ-loop
-cast-below c = omega (arith, c .before .shared-slice-known3 .given (c .before .before .before .loop .i))
-
 add-if2 : tie.Need-add-if2 Inv-loop μ-loop
 add-if2 c = omega arith
 
@@ -89,26 +88,23 @@ sub-ways c = omega arith
 ways-requires : tie.Need-ways-requires Inv-loop μ-loop
 ways-requires c κs = omega arith
 
-mul-sum : tie.Need-mul-sum Inv-loop μ-loop
-mul-sum c = omega arith
+byte-requires : tie.Need-byte-requires Inv-loop μ-loop
+byte-requires c κs = omega (arith, c .before .before .before .before .before .loop .inv .low)
 
-array-read-sum : tie.Need-array-read-sum Inv-loop μ-loop
-array-read-sum c = omega arith
+sub-byte : tie.Need-sub-byte Inv-loop μ-loop
+sub-byte c = omega arith
 
-sub-sum : tie.Need-sub-sum Inv-loop μ-loop
-sub-sum c = omega arith
+byte-requires-2 : tie.Need-byte-requires-2 Inv-loop μ-loop
+byte-requires-2 c κs = omega (arith, c .before .before .before .before .before .before .loop .inv .low)
 
-mul-sum-2 : tie.Need-mul-sum-2 Inv-loop μ-loop
-mul-sum-2 c = omega arith
+sub-before : tie.Need-sub-before Inv-loop μ-loop
+sub-before c = (let e = c .before .before .before in turn (e .before .before .before .before .loop .inv) (c .before .before .ways .result) (e .before .before .before .loop-test .taken) (e .before .if1 .left) (e .if2 .left) (c .before .before .ways .ensures) (c .before .byte .ensures) (c .byte2 .ensures)) .fewer
 
-array-read-sum-2 : tie.Need-array-read-sum-2 Inv-loop μ-loop
-array-read-sum-2 c = omega arith
-
-sub-sum-2 : tie.Need-sub-sum-2 Inv-loop μ-loop
-sub-sum-2 c = turn (c .before .before .before .before .before .loop .inv) (c .before .before .before .before .loop-test .taken) (c .before .before .if1 .left) (c .before .if2 .left) (c .ways .ensures) .fewer
+cast-sum : tie.Need-cast-sum Inv-loop μ-loop
+cast-sum c = omega arith
 
 add-sum : tie.Need-add-sum Inv-loop μ-loop
-add-sum c = let t = turn (c .before .before .before .before .before .loop .inv) (c .before .before .before .before .loop-test .taken) (c .before .before .if1 .left) (c .before .if2 .left) (c .ways .ensures) in omega (arith, t .fits)
+add-sum c = omega (arith, (let e = c .before .before .before in turn (e .before .before .before .before .loop .inv) (c .before .before .ways .result) (e .before .before .before .loop-test .taken) (e .before .if1 .left) (e .if2 .left) (c .before .before .ways .ensures) (c .before .byte .ensures) (c .byte2 .ensures)) .fits)
 
 add-i : tie.Need-add-i Inv-loop μ-loop
 add-i c = omega arith
@@ -117,7 +113,7 @@ loop-less : tie.Need-loop-less Inv-loop μ-loop
 loop-less c = omega arith
 
 loop-again : tie.Need-loop-again Inv-loop μ-loop
-loop-again c = turn (c .before .before .before .before .before .loop .inv) (c .before .before .before .before .loop-test .taken) (c .before .before .if1 .left) (c .before .if2 .left) (c .ways .ensures) .next
+loop-again c = (let e = c .before .before .before in turn (e .before .before .before .before .loop .inv) (c .before .before .ways .result) (e .before .before .before .loop-test .taken) (e .before .if1 .left) (e .if2 .left) (c .before .before .ways .ensures) (c .before .byte .ensures) (c .byte2 .ensures)) .next
 
 returns-3 : tie.Need-returns-3 Inv-loop μ-loop
 returns-3 c = done (c .before .loop .inv) (c .loop-test .left)
@@ -136,17 +132,15 @@ ranked-spec =
     shared-slice-read-depth
     returns
     sub-below
-    cast-below
     add-if2
     returns-2
     sub-ways
     ways-requires
-    mul-sum
-    array-read-sum
-    sub-sum
-    mul-sum-2
-    array-read-sum-2
-    sub-sum-2
+    byte-requires
+    sub-byte
+    byte-requires-2
+    sub-before
+    cast-sum
     add-sum
     add-i
     loop-less

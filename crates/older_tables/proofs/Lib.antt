@@ -1,0 +1,2 @@
+-- Why neither program misreads the other's tables.
+pub mod Theorems

@@ -1,2 +1,0 @@
--- Laws of the module `group`.
-pub mod Rows
