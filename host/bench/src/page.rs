@@ -59,6 +59,14 @@ pub fn summary(rows: &[Row]) -> String {
         " Level lookup, median by kind: {}.",
         listed.join(", ")
     ));
+    let again = all(&|r| r.again / r.questions[0][1]);
+    let (least, most) = again.iter().fold((f64::MAX, 0.0), |(a, b), &x| {
+        (f64::min(a, x), f64::max(b, x))
+    });
+    text.push_str(&format!(
+        " Written by hand once more: {:.2} times that by hand at the median, {least:.2} to {most:.2}.",
+        median(again)
+    ));
     text
 }
 
@@ -159,16 +167,17 @@ fn work_table(rows: &[Row], times: impl Fn(&Row) -> [f64; 2]) -> String {
 fn question_table(rows: &[Row]) -> String {
     let heads = QUESTIONS.join(" | ");
     let mut text = format!(
-        "| entries | kind | {heads} | plain climb | binary lifting |\n|---:|---|{}---:|---:|\n",
+        "| entries | kind | {heads} | level by hand once more | plain climb | binary lifting |\n|---:|---|{}---:|---:|---:|\n",
         "---:|".repeat(QUESTIONS.len())
     );
     for r in rows {
         let cells: Vec<String> = r.questions.iter().map(|&times| told(times)).collect();
         text.push_str(&format!(
-            "| {} | {} | {} | {:.0} | {:.1} |\n",
+            "| {} | {} | {} | {:.1} | {:.0} | {:.1} |\n",
             r.n,
             r.kind,
             cells.join(" | "),
+            r.again,
             r.climb,
             r.lifting
         ));
@@ -186,7 +195,8 @@ the proved code through its C interface, and the same work by hand in Rust (`hos
 have their numbers permuted. Preparing is in nanoseconds an entry, a question in nanoseconds. The level lookup is asked at
 depths up to the entry's; rating and premium at the depth of any entry, the premium with a rate for each entry and sums of both
 signs. A sheet with bands has 4,096 lines in any order, for the deepest level of at most 512 classes; its check is in
-microseconds, and a quotation of any entry is asked from the checked sheet. A plain climb and binary lifting answer the level
+microseconds, and a quotation of any entry is asked from the checked sheet. The level lookup by hand is written twice, apart from
+each other (`questions`, `steps`), so that neither is slow by the way it is written. A plain climb and binary lifting answer the level
 lookup only, and list no cells. The nearest common ancestor and the distance are asked of any two entries, and of two that
 are at most eight places apart in the preorder; by hand they are the same search with step 1 once and no cell noted. The plain
 climb from both goes by the list and the depths. A fork is two chains from the top.

@@ -27,6 +27,8 @@ pub struct Row {
     pub check: [f64; 2],
     /// Proved, by hand, of each question.
     pub questions: [[f64; 2]; QUESTIONS.len()],
+    /// The level lookup by hand, written once more.
+    pub again: f64,
     /// The level lookup by a plain climb, and by binary lifting; neither lists cells.
     pub climb: f64,
     pub lifting: f64,
@@ -57,6 +59,27 @@ fn prepare_times(parents: &[u32]) -> ([f64; 2], Vec<u32>) {
     }
     assert!(ta == tb, "the two tables are the same");
     ([median(a), median(b)], ta)
+}
+
+/// All ways of the level lookup over the same arguments: proved, by hand, and by hand once more.
+fn level_times(table: &Table, asked: &[(u32, u32)]) -> [f64; 3] {
+    let words = table.words();
+    let [mut a, mut b, mut c] = [const { Vec::new() }; 3];
+    for _ in 0..11 {
+        let own = |&(v, d): &(u32, u32)| seen(&table.level(v, d));
+        a.push(clock(asked.len(), || {
+            asked.iter().fold(0, |x, q| x ^ own(q))
+        }));
+        let hand = |&(v, d): &(u32, u32)| seen_by_hand(&reference::level(words, v, d));
+        b.push(clock(asked.len(), || {
+            asked.iter().fold(0, |x, q| x ^ hand(q))
+        }));
+        let again = |&(v, d): &(u32, u32)| seen_by_hand(&reference::level_by_steps(words, v, d));
+        c.push(clock(asked.len(), || {
+            asked.iter().fold(0, |x, q| x ^ again(q))
+        }));
+    }
+    [median(a), median(b), median(c)]
 }
 
 /// Both ways of a piece of work over the same arguments.
@@ -200,15 +223,10 @@ impl Asked {
         }
     }
 
-    /// Both ways of the five questions.
-    fn times(&self, table: &Table) -> [[f64; 2]; 5] {
+    /// Both ways of the other four questions.
+    fn times(&self, table: &Table) -> [[f64; 2]; 4] {
         let words = table.words();
         [
-            question_times(
-                &self.level,
-                |v, d| table.level(v, d),
-                |v, d| reference::level(words, v, d),
-            ),
             question_times(
                 &self.climb,
                 |v, k| table.climb(v, k),
@@ -242,7 +260,9 @@ pub fn time(n: usize, kind: usize, name: &'static str) -> Row {
     let mut seed = 99;
     let mut below = |k: usize| trees::below(&mut seed, k);
     let asked = Asked::new(&table, depth, &mut below);
-    let [level, climb, rating, ancestry, branch] = asked.times(&table);
+    let [own, hand, again] = level_times(&table, &asked.level);
+    let level = [own, hand];
+    let [climb, rating, ancestry, branch] = asked.times(&table);
     let premium = premium_times(&table, &asked.rating, &mut below);
     let sheet = sheets::Work::new(&table, depth, &mut below);
     let quotation = sheet.quote_times(depth, &mut below);
@@ -253,6 +273,7 @@ pub fn time(n: usize, kind: usize, name: &'static str) -> Row {
         prepare,
         check: sheet.check_times(),
         questions: [level, climb, rating, ancestry, branch, premium, quotation],
+        again,
         climb: plain,
         lifting,
     }
