@@ -2,15 +2,14 @@
 ghost use mathlib.Core.Path.{_≡_};
 ghost use Prim.Native.Nat.{_<_};
 ghost use Rattle.base.specs.Limits.{Sized};
-ghost use Rattle.answers.specs.Answers.{answerFrom};
+ghost use Rattle.answers.specs.Answers.{answerFrom, answerWords};
 ghost use Rattle.answers.specs.Steps.{afterParentKind, afterParent, afterPosition, inGroup, afterShape, fromGroup};
 ghost use Rattle.query.specs.Parts.{Held, InGroup};
+use crate::ends::end;
 use crate::joining::with_four;
 use crate::jump::from_jump;
-use crate::reading::after_class;
-use crate::reading::broken;
 use crate::reading::read;
-use answers::Answer;
+use answers::ANSWER_WORDS;
 use answers::Cells;
 use base::Node;
 use base::Position;
@@ -22,6 +21,7 @@ use base::limits::NO_LOCAL;
 use base::limits::ORDER;
 use base::limits::SHAPE_COUNT;
 use base::numbers::ACCEPTED;
+use base::numbers::BROKEN;
 use shapes::Climbs;
 use shapes::climbs_of;
 
@@ -33,12 +33,14 @@ pub(crate) fn from_group(
     group: u32,
     local: u32,
     cells: Cells,
-) -> Answer
+    words: &mut [u32; ANSWER_WORDS],
+)
     requires { ⌜ (Sized (now table) n) × (d < depth) × (Held 3 cells) ⌝ }
-    ensures { λ r. ⌜ r ≡ answerFrom (now (table .entry)) cells (fromGroup n d depth group local) ⌝ }
+    ensures { λ _. ⌜ now (words .exit) ≡ answerWords (answerFrom (now (table .entry)) cells (fromGroup n d depth group local)) ⌝ }
 {
     if n <= group {
-        return broken(cells);
+        end(BROKEN, 0, cells, words);
+        return;
     }
     let got = read(
         table,
@@ -47,7 +49,7 @@ pub(crate) fn from_group(
     );
     let shape = got.word;
     let more = got.cells;
-    after_shape(table, n, d, depth, group, local, shape, more)
+    after_shape(table, n, d, depth, group, local, shape, more, words);
 }
 
 // The shape, which is one of a group that has the local number.
@@ -60,18 +62,32 @@ fn after_shape(
     local: u32,
     shape: u32,
     cells: Cells,
-) -> Answer
+    words: &mut [u32; ANSWER_WORDS],
+)
     requires { ⌜ (Sized (now table) n) × (group < n) × (d < depth) × (Held 4 cells) ⌝ }
-    ensures { λ r. ⌜ r ≡ answerFrom (now (table .entry)) cells (afterShape n d depth group local shape) ⌝ }
+    ensures { λ _. ⌜ now (words .exit) ≡ answerWords (answerFrom (now (table .entry)) cells (afterShape n d depth group local shape)) ⌝ }
 {
     if SHAPE_COUNT <= shape {
-        return broken(cells);
+        end(BROKEN, 0, cells, words);
+        return;
     }
     let climbs = climbs_of(shape, local);
     if climbs.reached(0) == NO_LOCAL {
-        return broken(cells);
+        end(BROKEN, 0, cells, words);
+        return;
     }
-    in_group(table, n, d, depth, group, shape, local, climbs, cells)
+    in_group(
+        table,
+        n,
+        d,
+        depth,
+        group,
+        shape,
+        local,
+        climbs,
+        cells,
+        words,
+    );
 }
 
 // Within the group where the climbs asked end there, else from the group's parent. k is the depth in the group.
@@ -85,9 +101,10 @@ fn in_group(
     local: u32,
     climbs: Climbs,
     cells: Cells,
-) -> Answer
+    words: &mut [u32; ANSWER_WORDS],
+)
     requires { ⌜ (InGroup (now table) n d depth group shape local (climbs .0)) × (Held 4 cells) ⌝ }
-    ensures { λ r. ⌜ r ≡ answerFrom (now (table .entry)) cells (inGroup n d depth group local shape) ⌝ }
+    ensures { λ _. ⌜ now (words .exit) ≡ answerWords (answerFrom (now (table .entry)) cells (inGroup n d depth group local shape)) ⌝ }
 {
     let k = climbs.depth();
     if k < depth - d {
@@ -98,7 +115,8 @@ fn in_group(
         );
         let p = Node(got.word);
         let more = got.cells;
-        return after_parent(table, n, d, depth - k - 1, p, more);
+        after_parent(table, n, d, depth - k - 1, p, more, words);
+        return;
     }
     let got = read(
         table,
@@ -108,61 +126,85 @@ fn in_group(
     let to = climbs.reached(depth - d);
     let position = Position(got.word);
     let more = got.cells;
-    after_position(table, n, to as u32, position, more)
+    after_position(table, n, to as u32, position, more, words);
 }
 
 // ORDER at the group's position plus the local number reached. The position is tested before the sum is made, so that the sum does not wrap.
-fn after_position(table: &[u32], n: u32, local: u32, position: Position, cells: Cells) -> Answer
+fn after_position(
+    table: &[u32],
+    n: u32,
+    local: u32,
+    position: Position,
+    cells: Cells,
+    words: &mut [u32; ANSWER_WORDS],
+)
     requires { ⌜ (Sized (now table) n) × (local < 256) ⌝ }
-    ensures { λ r. ⌜ r ≡ answerFrom (now (table .entry)) cells (afterPosition n local (position .0)) ⌝ }
+    ensures { λ _. ⌜ now (words .exit) ≡ answerWords (answerFrom (now (table .entry)) cells (afterPosition n local (position .0))) ⌝ }
 {
     if n <= position.0 {
-        return broken(cells);
+        end(BROKEN, 0, cells, words);
+        return;
     }
     let at = Position(position.0 + local);
     if n <= at.0 {
-        return broken(cells);
+        end(BROKEN, 0, cells, words);
+        return;
     }
     let got = read(table, HEADER_CELLS + ORDER * n + at.0, cells);
     let class = Node(got.word);
     let more = got.cells;
-    after_class(n, class, more)
+    if n <= class.0 {
+        end(BROKEN, 0, more, words);
+        return;
+    }
+    end(ACCEPTED, class.0, more, words);
 }
 
 // The group's parent p, of a depth.
-fn after_parent(table: &[u32], n: u32, d: u32, depth: u32, p: Node, cells: Cells) -> Answer
+fn after_parent(
+    table: &[u32],
+    n: u32,
+    d: u32,
+    depth: u32,
+    p: Node,
+    cells: Cells,
+    words: &mut [u32; ANSWER_WORDS],
+)
     requires { ⌜ (Sized (now table) n) × (Held 5 cells) ⌝ }
-    ensures { λ r. ⌜ r ≡ answerFrom (now (table .entry)) cells (afterParent n d depth (p .0)) ⌝ }
+    ensures { λ _. ⌜ now (words .exit) ≡ answerWords (answerFrom (now (table .entry)) cells (afterParent n d depth (p .0))) ⌝ }
 {
     if n <= p.0 {
-        return broken(cells);
+        end(BROKEN, 0, cells, words);
+        return;
     }
     if depth == d {
-        return Answer {
-            number: ACCEPTED,
-            word: p.0,
-            cells,
-        };
+        end(ACCEPTED, p.0, cells, words);
+        return;
     }
     let got = read(table, HEADER_CELLS + n + p.0, cells);
     let kind = got.word;
     let more = got.cells;
-    after_parent_kind(table, n, d, kind, more)
+    after_parent_kind(table, n, d, kind, more, words);
 }
 
 // KIND of the group's parent, which is not micro: step 4 from there. Six cells were read.
-fn after_parent_kind(table: &[u32], n: u32, d: u32, kind: u32, cells: Cells) -> Answer
+fn after_parent_kind(
+    table: &[u32],
+    n: u32,
+    d: u32,
+    kind: u32,
+    cells: Cells,
+    words: &mut [u32; ANSWER_WORDS],
+)
     requires { ⌜ (Sized (now table) n) × (Held 6 cells) ⌝ }
-    ensures { λ r. ⌜ r ≡ answerFrom (now (table .entry)) cells (afterParentKind n d kind) ⌝ }
+    ensures { λ _. ⌜ now (words .exit) ≡ answerWords (answerFrom (now (table .entry)) cells (afterParentKind n d kind)) ⌝ }
 {
     if MICRO_MARK <= kind {
-        return broken(cells);
+        end(BROKEN, 0, cells, words);
+        return;
     }
     let a = from_jump(table, n, d, kind);
     let more = a.cells;
-    Answer {
-        number: a.number,
-        word: a.word,
-        cells: with_four(cells, 6, more),
-    }
+    let all = with_four(cells, 6, more);
+    end(a.number, a.word, all, words);
 }

@@ -1,5 +1,6 @@
 // The five questions and step 1 by itself, on a lent table of any length and contents. Each gives a result or one of the numbered refusals.
 mod branching;
+mod ends;
 mod group;
 mod joining;
 mod jump;

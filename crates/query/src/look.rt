@@ -8,6 +8,7 @@ ghost use Rattle.answers.specs.Answers.{listed, answerFrom, answerTo, answerWor
 ghost use Rattle.answers.specs.Steps.{opened, afterDepth, wanted, ancestorAt, afterKind};
 ghost use Rattle.query.specs.Parts.{Held, countFrom, OpenedBy};
 ghost use Rattle.query.specs.Lookups.{fromLookup, countsClimbs, askedAt, pastDepth};
+use crate::ends::end;
 use crate::group::from_group;
 use crate::joining::with_four;
 use crate::jump::from_jump;
@@ -37,8 +38,7 @@ pub enum Lookup {
 }
 
 // One of the three lookups, in words of the caller's. The level lookup, the climb, the rating lookup and the premium of other languages, and branch, ask here
-// alone, so that the compiler sets the steps in place once. What ends in step 1 or 2 is written there, what ends within a group or behind it in `after_kind`: an
-// answer that all ends have in common would keep each cell in a register up to its end.
+// alone, so that the compiler sets the steps in place once; each end writes its own words.
 pub fn look_words(table: &[u32], lookup: Lookup, v: Node, x: u32, words: &mut [u32; ANSWER_WORDS])
     ensures { λ _. ⌜ now (words .exit) ≡ answerWords (answerTo (now (table .entry)) (opened (length (now (table .entry))) (fromLookup lookup (v .0) x))) ⌝ }
 {
@@ -59,18 +59,6 @@ pub(crate) fn look(table: &[u32], lookup: Lookup, v: Node, x: u32) -> Answer
     let mut words = [0u32; ANSWER_WORDS];
     look_words(table, lookup, v, x, &mut words);
     Answer::of_words(words)
-}
-
-// An answer, where it is wanted.
-fn end(number: u32, word: u32, cells: Cells, words: &mut [u32; ANSWER_WORDS])
-    ensures { λ _. ⌜ now (words .exit) ≡ answerWords (record { number = number; word = word; cells = cells }) ⌝ }
-{
-    let answer = Answer {
-        number,
-        word,
-        cells,
-    };
-    *words = answer.words();
 }
 
 // What step 1 finds: the number of entries, 0 where the table is broken.
@@ -213,11 +201,20 @@ fn after_kind(
 {
     if MICRO_MARK <= kind {
         let x = kind - MICRO_MARK;
-        let a = from_group(table, n, d, depth, x / LOCAL_SPAN, x % LOCAL_SPAN, cells);
-        *words = a.words();
+        from_group(
+            table,
+            n,
+            d,
+            depth,
+            x / LOCAL_SPAN,
+            x % LOCAL_SPAN,
+            cells,
+            words,
+        );
         return;
     }
     let a = from_jump(table, n, d, kind);
     let more = a.cells;
-    end(a.number, a.word, with_four(cells, 3, more), words);
+    let all = with_four(cells, 3, more);
+    end(a.number, a.word, all, words);
 }

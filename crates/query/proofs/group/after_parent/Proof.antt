@@ -1,6 +1,8 @@
 -- `group::after_parent` meets its contract. Assumes nothing.
+use mathlib.Core.Path.{ap, _∙_}
 use lib.Dec.{lit<}
 use borrow.Author.Needs.{needs}
+use Rattle.answers.specs.Answers.{answerWords}
 use Rattle.answers.specs.Steps.{afterParent}
 use Rattle.query.proofs.Programs.{steps, got-held}
 use Rattle.query.proofs.group.after_parent.Statement.{statement}
@@ -12,10 +14,11 @@ after-parent-spec =
     tie.close
     (tie.spec
     (λ c κs. search needs)
-    (λ c. search steps)
-    (λ c. search steps)
+    (λ c. c .end .ensures ∙ ap answerWords (search steps))
+    (λ c κs. search needs)
+    (λ c. c .end2 .ensures ∙ ap answerWords (search steps))
     (λ c. search needs)
     (λ c. search needs)
     (λ c κs. search needs)
-    (λ c κs. (search needs, got-held _ _ _ _ 5 (c .before .read .ensures) (c .before .before .before .before .before .before .before .pre .1) (lit< tt)))
-    (λ c. search steps))
+    (λ c κs. (search needs, got-held _ _ _ _ 5 (c .before .before .read .ensures) (c .before .before .before .before .before .before .before .before .pre .1) (lit< tt)))
+    (λ c. c .after-parent-kind .ensures ∙ ap answerWords (search steps)))

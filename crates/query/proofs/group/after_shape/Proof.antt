@@ -1,6 +1,8 @@
 -- `group::after_shape` meets its contract. Assumes nothing.
+use mathlib.Core.Path.{ap, _∙_}
 use borrow.Author.Needs.{needs}
 use Rattle.shapes.proofs.PackedRows.{outside, inside, there}
+use Rattle.answers.specs.Answers.{answerWords}
 use Rattle.answers.specs.Steps.{afterShape}
 use Rattle.query.proofs.Programs.{steps}
 use Rattle.query.proofs.group.after_shape.Statement.{statement}
@@ -12,18 +14,20 @@ after-shape-spec =
     tie.close
     (tie.spec
     (λ c κs. search needs)
-    (λ c. search steps)
+    (λ c. c .end .ensures ∙ ap answerWords (search steps))
     (λ c κs. search needs)
     (λ c κs. search needs)
     (λ c κs. search needs)
     (λ c.
-    let cell = c .before .before in
+    let test = c .before .before in
+    let cell = test .before in
     let row = cell .before in
     let args = row .before .before .before .args in
-    let none = outside (args .shape) (args .local) _ (row .climbs-of .ensures) _ (cell .reached .ensures) (c .before .if2 .taken) in
-    search steps)
+    let none = outside (args .shape) (args .local) _ (row .climbs-of .ensures) _ (cell .reached .ensures) (test .if2 .taken) in
+    c .end2 .ensures ∙ ap answerWords (search steps))
     (λ c κs.
-    let cell = c .before in
+    let test = c .before in
+    let cell = test .before in
     let row = cell .before in
     let start = row .before .before .before in (
       record {
@@ -31,13 +35,14 @@ after-shape-spec =
         group-in = start .pre .1;
         deeper = start .pre .2;
         packs = row .climbs-of .ensures;
-        local-in = inside (start .args .shape) (start .args .local) _ (row .climbs-of .ensures) _ (cell .reached .ensures) (c .if2 .left);
+        local-in = inside (start .args .shape) (start .args .local) _ (row .climbs-of .ensures) _ (cell .reached .ensures) (test .if2 .left);
       },
       start .pre .3,
     ))
     (λ c.
-    let cell = c .before .before in
+    let test = c .before .before in
+    let cell = test .before in
     let row = cell .before in
     let args = row .before .before .before .args in
-    let j = there (args .shape) (args .local) (inside (args .shape) (args .local) _ (row .climbs-of .ensures) _ (cell .reached .ensures) (c .before .if2 .left)) in
-    search (steps, j .1)))
+    let j = there (args .shape) (args .local) (inside (args .shape) (args .local) _ (row .climbs-of .ensures) _ (cell .reached .ensures) (test .if2 .left)) in
+    c .in-group .ensures ∙ ap answerWords (search (steps, j .1))))

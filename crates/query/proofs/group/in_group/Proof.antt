@@ -1,9 +1,10 @@
 -- `group::in_group` meets its contract. Assumes nothing.
-use mathlib.Core.Path.{_≡_, _∙_}
+use mathlib.Core.Path.{_≡_, ap, _∙_}
 use lib.Dec.{lit<}
 use borrow.Author.Needs.{needs}
 use Rattle.base.specs.Limits.{groupLimit}
 use Rattle.shapes.specs.Climbs.{localDepth}
+use Rattle.answers.specs.Answers.{answerWords}
 use Rattle.answers.specs.Steps.{inGroup}
 use Rattle.query.proofs.Programs.{steps, got-held}
 use Rattle.query.proofs.group.in_group.Statement.{statement}
@@ -12,19 +13,20 @@ use Rattle.query.proofs.group.in_group.Tie as tie
 returns : tie.Need-returns
 unfolding inGroup
 returns c =
-    let deep = c .before .before .before .before in
+    let deep = c .before .before .before .before .before in
     let start = deep .before .before in
     let k = deep .depth .ensures ∙ start .pre .0 .packs .depth (start .pre .0 .local-in) in
-    rw (← k) (search steps)
+    c .after-parent .ensures ∙ ap answerWords (rw (← k) (search steps))
 
 returns-2 : tie.Need-returns-2
 unfolding inGroup
 returns-2 c =
-    let deep = c .before .before .before .before .before in
+    let cell = c .before .before .before in
+    let deep = cell .before .before .before in
     let start = deep .before .before in
     let k = deep .depth .ensures ∙ start .pre .0 .packs .depth (start .pre .0 .local-in) in
-    let to = c .before .before .reached .ensures ∙ start .pre .0 .packs .cells _ in
-    rw (← k, ← to) (search steps)
+    let to = cell .reached .ensures ∙ start .pre .0 .packs .cells _ in
+    c .after-position .ensures ∙ ap answerWords (rw (← k, ← to) (search steps))
 
 pub in-group-spec : {M : Type 1} → statement M
 in-group-spec =
@@ -40,7 +42,7 @@ in-group-spec =
     (λ c κs. search needs)
     (λ c. search needs)
     (λ c. search needs)
-    (λ c κs. (search needs, got-held _ _ _ _ 4 (c .before .read .ensures) (c .before .before .before .before .before .pre .1) (lit< tt)))
+    (λ c κs. (search needs, got-held _ _ _ _ 4 (c .before .before .read .ensures) (c .before .before .before .before .before .before .pre .1) (lit< tt)))
     returns
     (λ c. search needs)
     (λ c. search needs)

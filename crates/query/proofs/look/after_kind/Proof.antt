@@ -15,11 +15,11 @@ after-kind-spec =
     tie.close
     (tie.spec
     (λ c κs. search needs)
-    (λ c κs. search needs)
-    (λ c. c .words .ensures ∙ ap answerWords (search steps))
+    (λ c. c .from-group .ensures ∙ ap answerWords (search steps))
     (λ c κs. search needs)
     (λ c κs. (c .before .before .before .before .pre .2, lit≤ tt, jump-held _ _ _ _ _ (c .before .from-jump .ensures), jump-four _ _ _ _ _ (c .before .from-jump .ensures)))
     (λ c κs. search needs)
     (λ c.
-    let jump = c .before .before .before .before in
-    c .end .ensures ∙ ap answerWords (le-no _ _ _ _ _ _ _ (jump .before .if1 .left) (jump-goes _ _ _ _ _ (jump .from-jump .ensures) _ _ (c .before .before .with-four .ensures)))))
+    let all = c .before .before in
+    let jump = all .before .before in
+    c .end .ensures ∙ ap answerWords (le-no _ _ _ _ _ _ _ (jump .before .if1 .left) (jump-goes _ _ _ _ _ (jump .from-jump .ensures) _ _ (all .with-four .ensures)))))
