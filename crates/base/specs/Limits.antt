@@ -1,5 +1,5 @@
 -- The measures of a prepared table. A change of the group limit changes this module with its constants in `src/limits.rt`, and in `shapes` the cells of the shape
--- table and the counts by which a shape is numbered. Assumes nothing.
+-- table, how they are packed and the counts by which a shape is numbered. Assumes nothing.
 use mathlib.Core.List.{List}
 use Prim.Native.Nat.{ℕ, _+_, _-_, _*_, _/_, _≤_}
 use lib.ListN.{length}

@@ -4,6 +4,7 @@ use mathlib.Core.List.{List, _∷_}
 use mathlib.Core.Bool.{cond}
 use Prim.Native.Nat.{ℕ, _≤_, _<_}
 use native.Mathlib.Omega.{arith}
+use native.Mathlib.Decide.{decLt}
 use lib.ListN.{length}
 use borrow.Author.Tests.{le-ltb, lt-ltb, eq-eqb, ne-eqb}
 use Rattle.base.specs.Numbers.{Outcome}
@@ -12,11 +13,13 @@ use Rattle.base.specs.Limits.{mostEntries, headerMark, entriesOf}
 use Rattle.table.specs.Preparing.{Prepared}
 use Rattle.answers.specs.Reading.{Reading, read, ifLt, ifEq, wordAt, run, trace}
 use Rattle.answers.specs.Answers.{listed, answerTo, outcome}
+use Rattle.answers.specs.declared.Answer.{Answer}
 use Rattle.answers.specs.Steps.{broken, afterCount, opened, level, climbing, rating, ancestry, branch}
 use Rattle.climbs.proofs.TableWords.{count-word}
 use Rattle.query.specs.StepOne.{stepOne}
 use Rattle.common_ancestors.specs.Admission.{admission}
 use Rattle.premiums.specs.Quotes.{priceOf, quoteOf, quoteTo}
+use Rattle.sheets.specs.Checked.{levelIn}
 use Rattle.sheets.specs.Verdicts.{checkTo}
 use Rattle.pricing.specs.Quotes.{sheetPrice, priceTo}
 use Rattle.older_tables.specs.Older.{OlderTable, brokenAtOnce, BrokenToAll, olderOpened, BrokenToOlder}
@@ -75,6 +78,7 @@ module _ (t : List ℕ) (old : OlderTable t) where
     branch = λ u v. opened-broken _;
     premium = λ rates v d sum. ap (quoteOf rates sum) (rated v d);
     price = λ text v d sum. rw (rated v d);
+    quotation = λ sheet v sum r q. let looks = rated v (levelIn sheet) in q .refusal (λ z. omega (arith, ap (λ (a : Answer). a .number) looks)) ∙ rw looks;
     check = λ d text. rw step-one;
     entries = step-one;
     shared = λ most u v o any. any .refused (λ z. omega (arith, ap (λ (x : Outcome). x .number) (admitted u v))) ∙ admitted u v;
@@ -89,3 +93,11 @@ newer-broken t long high next =
 
 pub prepared-broken : (ps t : List ℕ) → Prepared ps t → BrokenToOlder t
 prepared-broken ps t p = let room = p .long in newer-broken t (omega arith) (omega (arith, count-word ps t p))
+
+-- a table that an older program goes on with is an older table
+pub passed-older : (t : List ℕ) → 4 ≤ length t → (BrokenToOlder t → ⊥) → OlderTable t
+passed-older t long goes = go (decLt (wordAt t 0) headerMark)
+  where
+    go : Dec (wordAt t 0 < headerMark) → OlderTable t
+    go (yes low) = record { long = long; low = low }
+    go (no high) = absurd (goes (newer-broken t long (omega arith)))

@@ -18,6 +18,8 @@ use Rattle.premiums.specs.Quotes.{quoted, quoteTo}
 use Rattle.sheets.specs.Verdicts.{naming, checkTo}
 use Rattle.pricing.specs.Quotes.{refusing, priceTo}
 use Rattle.pricing.specs.Quotes.{quoted as bandQuoted}
+use Rattle.pricing.specs.Promises.{Quotation}
+use Rattle.pricing.specs.declared.BandQuote.{BandQuote}
 
 -- a table whose cell 0 is below the mark, as that of every older one is, whatever else it holds
 pub record OlderTable (t : List ℕ) : Type 0 where
@@ -37,6 +39,7 @@ pub record BrokenToAll (t : List ℕ) : Type 0 where
   pub branch : (u v : ℕ) → answerTo t (branch (length t) u v) ≡ brokenAtOnce
   pub premium : (rates : List ℕ) (v d : ℕ) (sum : ℤ) → quoteTo t rates v d sum ≡ quoted (refused brokenTable) (listed (0 ∷ []))
   pub price : (text : List ℕ) (v d : ℕ) (sum : ℤ) → priceTo t text v d sum ≡ bandQuoted (refusing (naming brokenTable 0)) (listed (0 ∷ []))
+  pub quotation : (sheet : List ℕ) (v : ℕ) (sum : ℤ) (r : BandQuote) → Quotation sheet v sum t r → r ≡ bandQuoted (refusing (naming brokenTable 0)) (listed (0 ∷ []))
   pub check : (d : ℕ) (text : List ℕ) → checkTo t d text ≡ naming brokenTable 0
   pub entries : stepOne t ≡ brokenTable
   pub shared : (most : ℕ → ℕ) (u v : ℕ) (o : Outcome) → OnAnyTable most t u v o → o ≡ brokenTable

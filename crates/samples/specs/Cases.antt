@@ -7,7 +7,7 @@ use Rattle.samples.specs.declared.cases.Case.{Case}
 
 -- of a line: of each of seven kinds; of all small lists, and of those with parents below; of each fault and each length that is too short
 unfoldable pub countOf : ℕ → ℕ
-countOf line = cond (ltb line 7) 212 (cond (eqb line 14) 1440 (cond (eqb line 15) 1748 371))
+countOf line = cond (ltb line 7) 212 (cond (eqb line 14) 1440 (cond (eqb line 15) 11828 371))
 
 -- W, of n entries
 abbrev pub room : ℕ → ℕ

@@ -73,7 +73,7 @@ pub fn count_at(line: usize) -> usize
         return 1440;
     }
     if line == GROWN {
-        return 1748;
+        return 11828;
     }
     371
 }

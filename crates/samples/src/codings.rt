@@ -89,13 +89,13 @@ pub(crate) fn any_coded(k: usize) -> Coded
     Coded { n: 0, code: 0 }
 }
 
-// The k-th of the grown_lists of 1 to 7 entries.
+// The k-th of the grown_lists of 1 to 8 entries, the least with an entry that is in no group among them.
 pub(crate) fn grown_coded(k: usize) -> Coded
-    ensures { λ r. ⌜ r .n ≤ 7 ⌝ }
+    ensures { λ r. ⌜ r .n ≤ 8 ⌝ }
 {
     let mut rest = k;
     let mut n = 1;
-    while n < 8 {
+    while n < 9 {
         let count = grown_count(n);
         if rest < count {
             return Coded { n, code: rest };

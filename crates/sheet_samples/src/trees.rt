@@ -10,6 +10,7 @@ use samples::cases::Case;
 use samples::cases::GROWN;
 use samples::cases::KINDS;
 use samples::cases::case_at;
+use samples::cases::count_at;
 use samples::climbing::climbs;
 use samples::seeds::next;
 use samples::seeds::pick;
@@ -21,7 +22,7 @@ use samples::words::put;
 // Which of the lists: of any kind with up to 40 entries, or for the longest sheets with up to 512; or a small tree.
 fn list_of(kind: usize, line: usize, seed: usize) -> usize {
     if line == GROWN {
-        return pick(seed, 1748);
+        return pick(seed, count_at(GROWN));
     }
     if kind < FULL {
         return pick(seed, 160);

@@ -103,7 +103,7 @@ impl Table {
         &self.words
     }
 
-    /// How many entries the table says it has: 0 where cell 0 is that of no table, or of an older one.
+    /// How many entries the table says it has: 0 where cell 0 is below its mark, as an older table's is, or the table is empty.
     pub fn entries(&self) -> u32 {
         let cell = self.words.first().copied().unwrap_or(0);
         cell.saturating_sub(HEADER_MARK)

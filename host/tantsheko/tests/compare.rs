@@ -4,7 +4,7 @@ mod beside;
 
 use beside::{same_answer as same, same_quote, TOP};
 use reference::trees::{below, make as tree, next};
-use tantsheko::{prepare_into, Refusal, Table};
+use tantsheko::{prepare_into, Refusal, Sheet, Table};
 
 /// The number and the word of preparing's answer.
 fn reply(r: Result<u32, Refusal>) -> (u32, u32) {
@@ -252,6 +252,10 @@ fn older_tables() {
     for k in 0..70usize {
         let n = 1 + below(&mut seed, 60) as usize;
         let mut words = whole(&tree(k, n, &mut seed, true)).expect("a tree");
+        let prepared = Table::from_words(words.clone());
+        let top = prepared.level(0, 0).result().expect("the top");
+        let text = format!("{top},0,2000000000,5\n").into_bytes();
+        let sheet = Sheet::check(&prepared, &text, 0).expect("a sheet");
         words[0] = n as u32;
         let table = Table::from_words(words);
         assert_eq!(table.entries(), 0);
@@ -282,6 +286,12 @@ fn older_tables() {
                 Err(Refusal::Broken)
             );
             assert_eq!(table.sheet_lines(b"", 0), Err(Refusal::Broken));
+            for quote in [table.price(&text, v, 0, 25), sheet.quote(&table, v, 25)] {
+                assert_eq!(
+                    (quote.result(), quote.answer().cells()),
+                    (Err(Refusal::Broken), &[0][..])
+                );
+            }
         }
     }
 }

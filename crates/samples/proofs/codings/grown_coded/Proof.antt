@@ -9,7 +9,7 @@ abbrev Inv-loop : tie.InvT-loop
 Inv-loop k rest₀ n₀ rest n = Unit {0}
 
 abbrev μ-loop : tie.MeasureT-loop
-μ-loop k rest₀ n₀ rest n = 8 - n
+μ-loop k rest₀ n₀ rest n = 9 - n
 
 pub grown-coded-spec : {M : Type 1} → statement M
 grown-coded-spec =

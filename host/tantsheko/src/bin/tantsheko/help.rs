@@ -75,7 +75,7 @@ off is negative. Prints `class,cents`: the class of the entry at that rating lev
 the entry itself where it is less deep, and SUM times its rate divided by 10000, to the
 nearest cent, a half going away from zero.
 Refused are, in this order: what the lookup refuses (a number that is no entry, 7, or a
-damaged table, 9), a class whose rate is over its limit or past the end of RATES (11), a
+damaged or older table, 9), a class whose rate is over its limit or past the end of RATES (11), a
 sum outside its range (12).
 With --cells a second line lists the cells of the table that were read.",
     ),
