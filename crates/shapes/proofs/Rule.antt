@@ -13,11 +13,6 @@ use Rattle.shapes.specs.Walks.{Walk, shapes}
 use Rattle.shapes.specs.Climbs.{parentList, reached, mark, rowOf, rowsOf, CellOf, Rule}
 use Rattle.shapes.proofs.Sizes.{reached-below}
 
--- a shape's row of a local number
-pub row-is : (L s l : ℕ) → l < L → getD (rowsOf L s) l [] ≡ rowOf L s l
-unfolding rowsOf
-row-is L s l h = below-at L (rowOf L s) [] l h
-
 -- a cell holds the local number that its climb reaches, and 255 where there is none
 pub cell-is : (L s l k : ℕ) → l < L → k < L → getD (getD (rowsOf L s) l []) k 0 ≡ mark (reached L s l k)
 unfolding rowsOf rowOf
@@ -33,9 +28,9 @@ pub rule : (L : ℕ) → L ≤ 255 → (s : ℕ) → Rule L s (rowsOf L s)
 rule L b s l k hl hk = rw (cell-is L s l k hl hk) (says (reached L s l k) (λ j e. omega (arith, reached-below L s l k j e)))
 
 -- a number that is no shape has only 255
-pub no-shape : (L s : ℕ) → length (shapes L) ≤ s → rowsOf L s ≡ below L (λ l. below L (λ k. 255))
-unfolding rowsOf rowOf reached bind
-no-shape L s h = ap (λ (o : Option Walk). below L (λ l. below L (λ k. mark (bind o (λ w. up (parentList w) k l))))) (at-past (shapes L) s h)
+pub no-shape : (L s : ℕ) → length (shapes L) ≤ s → (l : ℕ) → rowOf L s l ≡ below L (λ k. 255)
+unfolding rowOf reached bind
+no-shape L s h l = ap (λ (o : Option Walk). below L (λ k. mark (bind o (λ w. up (parentList w) k l)))) (at-past (shapes L) s h)
 
 -- the group limit has 197 shapes
 pub shape-count : length (shapes groupLimit) ≡ shapeCount

@@ -5,7 +5,7 @@ use mathlib.Core.Bool.{Bool, true, false, cond}
 use mathlib.Core.Option.{none}
 use Prim.Native.Nat.{ℕ, zero, suc, _*_, _/_, _%_, _^_}
 use lib.Dec.{eqb, ltb}
-use Rattle.base.specs.Limits.{groupLimit}
+use Rattle.base.specs.Limits.{groupLimit, localSpan}
 use Rattle.base.specs.Lists.{below}
 use Rattle.shapes.specs.Climbs.{reached, localDepth, mark}
 
@@ -44,6 +44,6 @@ filled (suc n) (x ∷ l) = x ∷ filled n l
 unfoldable pub pathRow : ℕ → List ℕ
 pathRow path = cond (ltb path 64) (filled groupLimit (upward 6 path)) (filled groupLimit [])
 
--- the rows of a shape by its paths, a byte for each local number
+-- the rows of a shape by its paths, a byte for each local number that KIND can name
 unfoldable pub pathRows : ℕ → List (List ℕ)
-pathRows paths = below groupLimit (λ l. pathRow (byte paths l))
+pathRows paths = below localSpan (λ l. pathRow (byte paths l))

@@ -2,22 +2,23 @@
 use mathlib.Core.Path.{_≡_, sym, ap}
 use mathlib.Core.Option.{bind}
 use Prim.Native.Nat.{ℕ}
-use Rattle.base.specs.Limits.{groupLimit, shapeCount}
-use Rattle.base.specs.Lists.{each}
+use Rattle.base.specs.Limits.{groupLimit, shapeCount, localSpan}
+use Rattle.base.specs.Lists.{each, below}
+use Rattle.base.proofs.Lists.{each-same}
 use Rattle.base.proofs.Arms.{past}
 use Rattle.tree.specs.Parents.{entry, parent, up}
-use Rattle.shapes.specs.Climbs.{parentList, reached, rowOf, rowsOf}
+use Rattle.shapes.specs.Climbs.{parentList, reached, rowOf}
 use Rattle.shapes.specs.Packed.{pathRow, pathRows}
 use Rattle.shapes.proofs.Rule.{no-shape}
 use Rattle.shapes.proofs.packed.paths.Statement.{statement}
 use Rattle.shapes.proofs.packed.paths.Tie as tie
 
 -- the arm of number i
-here : {s : ℕ} (i : ℕ) → s ≡ i → rowsOf groupLimit i ≡ rowsOf groupLimit s
-here i e = ap (rowsOf groupLimit) (sym e)
+here : {s : ℕ} (i : ℕ) → s ≡ i → below localSpan (rowOf groupLimit i) ≡ below localSpan (rowOf groupLimit s)
+here i e = ap (λ j. below localSpan (rowOf groupLimit j)) (sym e)
 
 pub paths-spec : {M : Type 1} → statement M
-unfolding rowsOf rowOf reached parentList up parent entry bind each pathRow pathRows
+unfolding rowOf reached parentList up parent entry bind each pathRow pathRows
 paths-spec =
     tie.close
     (tie.spec
@@ -218,4 +219,4 @@ paths-spec =
     (λ c. here 194 (c .match .keys195))
     (λ c. here 195 (c .match .keys196))
     (λ c. here 196 (c .match .keys197))
-    (λ c. let s = c .before .args .shape in sym (no-shape groupLimit s (past shapeCount s (c .match .rest)))))
+    (λ c. let s = c .before .args .shape in sym (each-same localSpan 0 (rowOf groupLimit s) _ (no-shape groupLimit s (past shapeCount s (c .match .rest))))))
