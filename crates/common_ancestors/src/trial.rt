@@ -14,9 +14,8 @@ use base::limits::HEADER_CELLS;
 use base::limits::ORDER;
 use base::numbers::ACCEPTED;
 use base::numbers::BROKEN;
-use query::Lookup;
 use query::ancestry;
-use query::look_words;
+use query::climb_words;
 
 // An entry of a climb, and whether it is at or above another.
 pub struct Trial {
@@ -60,7 +59,7 @@ pub(crate) fn tried(table: &[u32], n: u32, a: Node, b: Node, k: u32) -> Trial
     ensures right { λ r. ⌜ ((ps : List ℕ) → Table ps (now (table .entry)) n → b .0 < n → (x : ℕ) → up ps k (a .0) ≡ some x → Tried ps x (b .0) r) ⌝ }
 {
     let mut words: [u32; ANSWER_WORDS] = [0; ANSWER_WORDS];
-    look_words(table, Lookup::Climb, a, k, &mut words);
+    climb_words(table, a, k, &mut words);
     let word = words[1];
     if words[0] != ACCEPTED {
         return broken();

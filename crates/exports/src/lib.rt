@@ -21,7 +21,6 @@ use base::limits::space_words;
 use base::limits::table_words;
 use common_ancestors::Sought;
 use common_ancestors::answer_words;
-use query::Lookup;
 use sheets::SHEET_WORDS;
 
 // W: the words of a table for n entries.
@@ -61,7 +60,7 @@ pub extern "C" fn tantsheko_prepare(
 pub extern "C" fn tantsheko_level(table: &[u32], v: u32, d: u32, answer: &mut [u32; ANSWER_WORDS])
     ensures { λ _. ⌜ now (answer .exit) ≡ answerWords (answerTo (now (table .entry)) (level (length (now (table .entry))) v d)) ⌝ }
 {
-    query::look_words(table, Lookup::Level, Node(v), d, answer);
+    query::level_words(table, Node(v), d, answer);
 }
 
 // The entry k above v.
@@ -69,7 +68,7 @@ pub extern "C" fn tantsheko_level(table: &[u32], v: u32, d: u32, answer: &mut [u
 pub extern "C" fn tantsheko_climb(table: &[u32], v: u32, k: u32, answer: &mut [u32; ANSWER_WORDS])
     ensures { λ _. ⌜ now (answer .exit) ≡ answerWords (answerTo (now (table .entry)) (climbing (length (now (table .entry))) v k)) ⌝ }
 {
-    query::look_words(table, Lookup::Climb, Node(v), k, answer);
+    query::climb_words(table, Node(v), k, answer);
 }
 
 // The class of v at rating level d, or v itself where it is less deep.

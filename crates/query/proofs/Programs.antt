@@ -60,13 +60,17 @@ module _ (r : Answer) (t : List ℕ) (cs : Cells) where
 
 pub ruleset steps = (le-yes, le-no, lt-yes, lt-no, eq-yes, eq-no, is-none, is-some, reads, ends)
 
--- a read lists one cell more
-pub got-held : (g : Got) (w cell : ℕ) (cs : Cells) (k : ℕ) → g ≡ record { word = w; cells = pushed cs cell } → Held k cs → k < 15 → Held (k + 1) (g .cells)
+-- a list with one cell more
+pub pushed-held : (cell : ℕ) (cs : Cells) (k : ℕ) → Held k cs → k < 15 → Held (k + 1) (pushed cs cell)
 unfolding pushedAll
-got-held g w cell cs k e h low =
+pushed-held cell cs k h low =
     let l = length-append (h .list) (cell ∷ []) in
     record {
       list = h .list ++ (cell ∷ []);
       long = omega (arith, h .long);
-      is = ap (λ b. b .cells) e ∙ ap (λ b. pushed b cell) (h .is) ∙ push-all-listed (h .list) (cell ∷ []) (omega (arith, h .long));
+      is = ap (λ b. pushed b cell) (h .is) ∙ push-all-listed (h .list) (cell ∷ []) (omega (arith, h .long));
     }
+
+-- a read lists one cell more
+pub got-held : (g : Got) (w cell : ℕ) (cs : Cells) (k : ℕ) → g ≡ record { word = w; cells = pushed cs cell } → Held k cs → k < 15 → Held (k + 1) (g .cells)
+got-held g w cell cs k e h low = rw e (pushed-held cell cs k h low)

@@ -1,2 +1,3 @@
 -- Laws of the module `joining`.
 pub mod Joins
+pub mod Recounts

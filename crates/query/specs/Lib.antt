@@ -1,4 +1,3 @@
 -- What the parts of a question hand on.
 pub mod StepOne
 pub mod Parts
-pub mod Lookups

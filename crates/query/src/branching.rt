@@ -8,8 +8,7 @@ ghost use Rattle.answers.specs.Answers.{listed, answerFrom};
 ghost use Rattle.answers.specs.Steps.{branch, strictly, deeper};
 ghost use Rattle.query.specs.Parts.{Held};
 use crate::joining::with_ten;
-use crate::look::Lookup;
-use crate::look::look_words;
+use crate::look::level_words;
 use crate::reading::broken;
 use crate::reading::read;
 use crate::relate::relate;
@@ -55,7 +54,7 @@ pub(crate) fn strictly(table: &[u32], n: u32, u: Node, v: Node, cells: Cells) ->
             cells,
         };
     }
-    let got = read(table, HEADER_CELLS + u.0, cells);
+    let got = read(table, HEADER_CELLS, u.0, cells);
     let depth = got.word;
     let more = got.cells;
     deeper(table, n, v, depth, more)
@@ -70,7 +69,7 @@ fn deeper(table: &[u32], n: u32, v: Node, depth: u32, cells: Cells) -> Answer
         return broken(cells);
     }
     let mut words: [u32; ANSWER_WORDS] = [0; ANSWER_WORDS];
-    look_words(table, Lookup::Level, v, depth + 1, &mut words);
+    level_words(table, v, depth + 1, &mut words);
     let inner = Answer::of_words(words);
     let more = inner.cells;
     let all = with_ten(cells, more);

@@ -19,7 +19,8 @@ pub(crate) fn end(number: u32, word: u32, cells: Cells, words: &mut [u32; ANSWER
     put(number, word, cells, words);
 }
 
-fn put(number: u32, word: u32, cells: Cells, words: &mut [u32; ANSWER_WORDS])
+// One end for more than one number.
+pub(crate) fn put(number: u32, word: u32, cells: Cells, words: &mut [u32; ANSWER_WORDS])
     ensures { λ _. ⌜ now (words .exit) ≡ answerWords (record { number = number; word = word; cells = cells }) ⌝ }
 {
     let answer = Answer {

@@ -1,12 +1,12 @@
 // Step 3: within a group, and out of it.
 ghost use mathlib.Core.Path.{_≡_};
-ghost use Prim.Native.Nat.{_<_};
+ghost use Prim.Native.Nat.{_+_, _<_};
 ghost use Rattle.base.specs.Limits.{Sized};
 ghost use Rattle.answers.specs.Answers.{answerFrom, answerWords};
 ghost use Rattle.answers.specs.Steps.{afterParentKind, afterParent, afterPosition, inGroup, afterShape, fromGroup};
 ghost use Rattle.query.specs.Parts.{Held, InGroup};
 use crate::ends::end;
-use crate::joining::with_four;
+use crate::joining::with_jump;
 use crate::jump::from_jump;
 use crate::reading::read;
 use answers::ANSWER_WORDS;
@@ -16,7 +16,6 @@ use base::Position;
 use base::limits::GROUP_WORDS;
 use base::limits::GROUPS;
 use base::limits::HEADER_CELLS;
-use base::limits::MICRO_MARK;
 use base::limits::NO_LOCAL;
 use base::limits::ORDER;
 use base::limits::SHAPE_COUNT;
@@ -44,7 +43,8 @@ pub(crate) fn from_group(
     }
     let got = read(
         table,
-        HEADER_CELLS + GROUPS * n + GROUP_WORDS * group + 1,
+        HEADER_CELLS + GROUPS * n + GROUP_WORDS * group,
+        1,
         cells,
     );
     let shape = got.word;
@@ -110,19 +110,16 @@ fn in_group(
     if k < depth - d {
         let got = read(
             table,
-            HEADER_CELLS + GROUPS * n + GROUP_WORDS * group + 2,
+            HEADER_CELLS + GROUPS * n + GROUP_WORDS * group,
+            2,
             cells,
         );
         let p = Node(got.word);
         let more = got.cells;
-        after_parent(table, n, d, depth - k - 1, p, more, words);
+        after_parent(table, n, d, depth - d - k - 1, p, more, words);
         return;
     }
-    let got = read(
-        table,
-        HEADER_CELLS + GROUPS * n + GROUP_WORDS * group,
-        cells,
-    );
+    let got = read(table, HEADER_CELLS + GROUPS * n, GROUP_WORDS * group, cells);
     let to = climbs.reached(depth - d);
     let position = Position(got.word);
     let more = got.cells;
@@ -150,7 +147,7 @@ fn after_position(
         end(BROKEN, 0, cells, words);
         return;
     }
-    let got = read(table, HEADER_CELLS + ORDER * n + at.0, cells);
+    let got = read(table, HEADER_CELLS + ORDER * n, at.0, cells);
     let class = Node(got.word);
     let more = got.cells;
     if n <= class.0 {
@@ -160,34 +157,34 @@ fn after_position(
     end(ACCEPTED, class.0, more, words);
 }
 
-// The group's parent p, of a depth.
+// The group's parent p, with the climbs that are left from there.
 fn after_parent(
     table: &[u32],
     n: u32,
     d: u32,
-    depth: u32,
+    left: u32,
     p: Node,
     cells: Cells,
     words: &mut [u32; ANSWER_WORDS],
 )
     requires { ⌜ (Sized (now table) n) × (Held 5 cells) ⌝ }
-    ensures { λ _. ⌜ now (words .exit) ≡ answerWords (answerFrom (now (table .entry)) cells (afterParent n d depth (p .0))) ⌝ }
+    ensures { λ _. ⌜ now (words .exit) ≡ answerWords (answerFrom (now (table .entry)) cells (afterParent n d (d + left) (p .0))) ⌝ }
 {
     if n <= p.0 {
         end(BROKEN, 0, cells, words);
         return;
     }
-    if depth == d {
+    if left == 0 {
         end(ACCEPTED, p.0, cells, words);
         return;
     }
-    let got = read(table, HEADER_CELLS + n + p.0, cells);
+    let got = read(table, HEADER_CELLS + n, p.0, cells);
     let kind = got.word;
     let more = got.cells;
     after_parent_kind(table, n, d, kind, more, words);
 }
 
-// KIND of the group's parent, which is not micro: step 4 from there. Six cells were read.
+// KIND of the group's parent: step 4 from there, which refuses a micro one too. Six cells were read.
 fn after_parent_kind(
     table: &[u32],
     n: u32,
@@ -199,12 +196,7 @@ fn after_parent_kind(
     requires { ⌜ (Sized (now table) n) × (Held 6 cells) ⌝ }
     ensures { λ _. ⌜ now (words .exit) ≡ answerWords (answerFrom (now (table .entry)) cells (afterParentKind n d kind)) ⌝ }
 {
-    if MICRO_MARK <= kind {
-        end(BROKEN, 0, cells, words);
-        return;
-    }
     let a = from_jump(table, n, d, kind);
-    let more = a.cells;
-    let all = with_four(cells, 6, more);
+    let all = with_jump(cells, 6, a);
     end(a.number, a.word, all, words);
 }

@@ -3,12 +3,27 @@ ghost use mathlib.Core.Path.{_≡_};
 ghost use Prim.Native.Nat.{_≤_};
 ghost use lib.ListN.{take};
 ghost use Rattle.answers.specs.Answers.{pushedAll};
-ghost use Rattle.query.specs.Parts.{Held};
+ghost use Rattle.query.specs.Parts.{Held, JumpCells, oneOf};
+use answers::Answer;
 use answers::Cells;
+use base::numbers::ACCEPTED;
 
-// A list of four cells at most behind one of i cells. With a constant i every place is one, so that nothing is held in memory.
-pub(crate) fn with_four(cells: Cells, i: u32, more: Cells) -> Cells
-    requires { ⌜ (Held i cells) × (i ≤ 11) × (Held (more .count) more) × (more .count ≤ 4) ⌝ }
+// The cells of step 4's answer behind i cells.
+pub(crate) fn with_jump(cells: Cells, i: u32, a: Answer) -> Cells
+    requires { ⌜ (Held i cells) × (i ≤ 11) × (JumpCells (a .cells)) ⌝ }
+    ensures { λ r. ⌜ r ≡ pushedAll cells (take (a .cells .count) (a .cells .at)) ⌝ }
+{
+    let more = a.cells;
+    if a.number == ACCEPTED {
+        return with_four(cells, i, more);
+    }
+    let same = recounted(more);
+    with_four(cells, i, same)
+}
+
+// Four cells at most behind i cells. With a constant i every place is one, so that nothing is held in memory.
+fn with_four(cells: Cells, i: u32, more: Cells) -> Cells
+    requires { ⌜ (Held i cells) × (i ≤ 11) × (JumpCells more) ⌝ }
     ensures { λ r. ⌜ r ≡ pushedAll cells (take (more .count) (more .at)) ⌝ }
 {
     let at = more.at;
@@ -20,6 +35,27 @@ pub(crate) fn with_four(cells: Cells, i: u32, more: Cells) -> Cells
     all.at[k + 3] = at[3];
     all.count = i + more.count;
     all
+}
+
+// The cells of step 4 with their count taken from the places. Else the compiler sets the count of each refusal before the test that refuses, on the way of every answer.
+fn recounted(cells: Cells) -> Cells
+    requires { ⌜ JumpCells cells ⌝ }
+    ensures { λ r. ⌜ r ≡ cells ⌝ }
+{
+    let mut same = cells;
+    let at = same.at;
+    same.count = one(at[0]) + one(at[1]) + one(at[2]) + one(at[3]);
+    same
+}
+
+// 1 for a place that is used.
+fn one(cell: u32) -> u32
+    ensures { λ r. ⌜ (r ≡ oneOf cell) × (r ≤ 1) ⌝ }
+{
+    if cell == 0 {
+        return 0;
+    }
+    1
 }
 
 // The cells of a level lookup, ten at most, behind the five of branch.

@@ -30,7 +30,7 @@ pub(crate) fn from_jump(table: &[u32], n: u32, d: u32, jump: u32) -> Answer
     if jump_room(n) <= jump {
         return broken(cells);
     }
-    let got = read(table, HEADER_CELLS + JUMPS * n + RECORD_WORDS * jump, cells);
+    let got = read(table, HEADER_CELLS + JUMPS * n, RECORD_WORDS * jump, cells);
     let depth = got.word;
     let more = got.cells;
     after_jump_depth(table, n, d, jump, depth, more)
@@ -61,7 +61,8 @@ fn read_ancestor(table: &[u32], n: u32, jump: u32, x: u32, e: u32, cells: Cells)
 {
     let got = read(
         table,
-        HEADER_CELLS + JUMPS * n + RECORD_WORDS * jump + 1 + e,
+        HEADER_CELLS + JUMPS * n + RECORD_WORDS * jump + 1,
+        e,
         cells,
     );
     let w = Node(got.word);
@@ -77,7 +78,7 @@ fn after_ancestor(table: &[u32], n: u32, missing: u32, w: Node, cells: Cells) ->
     if n <= w.0 {
         return broken(cells);
     }
-    let got = read(table, HEADER_CELLS + LADPOS * n + w.0, cells);
+    let got = read(table, HEADER_CELLS + LADPOS * n, w.0, cells);
     let index = got.word;
     let more = got.cells;
     after_ladpos(table, n, missing, index, more)
@@ -95,7 +96,7 @@ fn after_ladpos(table: &[u32], n: u32, missing: u32, index: u32, cells: Cells) -
     if LADDER_WORDS * n <= at {
         return broken(cells);
     }
-    let got = read(table, HEADER_CELLS + LADDERS * n + at, cells);
+    let got = read(table, HEADER_CELLS + LADDERS * n, at, cells);
     let class = Node(got.word);
     let more = got.cells;
     after_class(n, class, more)

@@ -8,15 +8,14 @@ mod look;
 mod reading;
 mod relate;
 
-pub use look::Lookup;
-pub use look::look_words;
+pub use look::climb_words;
+pub use look::level_words;
+pub use look::rating_words;
 ghost use mathlib.Core.Path.{_≡_};
 ghost use mathlib.Core.List.{[], _∷_};
-ghost use lib.ListN.{length};
 ghost use Rattle.base.specs.Limits.{Sized};
 ghost use Rattle.base.specs.Numbers.{Says};
 ghost use Rattle.tree.specs.Questions.{classOf, ratingOf, climbOf, ancestryOf, branchOf};
-ghost use Rattle.answers.specs.Answers.{answerTo, answerWords};
 ghost use Rattle.answers.specs.Promises.{Answers, Gives, Few, Local, Right, RatesKnown, Smaller};
 ghost use Rattle.answers.specs.Steps.{level, climbing, rating, ancestry, branch};
 ghost use Rattle.query.specs.StepOne.{stepOne};
@@ -35,7 +34,9 @@ pub fn level(table: &[u32], v: Node, d: u32) -> Answer
     ensures local { λ r. ⌜ Local (λ len. level len (v .0) d) (now (table .entry)) r ⌝ }
     ensures right { λ r. ⌜ Right (λ ps. classOf ps (v .0) d) (now (table .entry)) r ⌝ }
 {
-    look::look(table, Lookup::Level, v, d)
+    let mut words: [u32; ANSWER_WORDS] = [0; ANSWER_WORDS];
+    level_words(table, v, d, &mut words);
+    Answer::of_words(words)
 }
 
 // The entry k climbs above v.
@@ -46,7 +47,9 @@ pub fn climb(table: &[u32], v: Node, k: u32) -> Answer
     ensures local { λ r. ⌜ Local (λ len. climbing len (v .0) k) (now (table .entry)) r ⌝ }
     ensures right { λ r. ⌜ Right (λ ps. climbOf ps (v .0) k) (now (table .entry)) r ⌝ }
 {
-    look::look(table, Lookup::Climb, v, k)
+    let mut words: [u32; ANSWER_WORDS] = [0; ANSWER_WORDS];
+    climb_words(table, v, k, &mut words);
+    Answer::of_words(words)
 }
 
 // The rating lookup: the class of v at depth d, or v itself where it is less deep.
@@ -59,14 +62,9 @@ pub fn rating(table: &[u32], v: Node, d: u32) -> Answer
     ensures known { λ r. ⌜ RatesKnown (v .0) d (now (table .entry)) r ⌝ }
     ensures smaller { λ r. ⌜ Smaller (v .0) d (now (table .entry)) r ⌝ }
 {
-    look::look(table, Lookup::Rating, v, d)
-}
-
-// As `rating`, in words of the caller's.
-pub fn rating_words(table: &[u32], v: Node, d: u32, words: &mut [u32; ANSWER_WORDS])
-    ensures { λ _. ⌜ now (words .exit) ≡ answerWords (answerTo (now (table .entry)) (rating (length (now (table .entry))) (v .0) d)) ⌝ }
-{
-    look_words(table, Lookup::Rating, v, d, words);
+    let mut words: [u32; ANSWER_WORDS] = [0; ANSWER_WORDS];
+    rating_words(table, v, d, &mut words);
+    Answer::of_words(words)
 }
 
 // Whether u is at or above v: the result is 1 or 0.

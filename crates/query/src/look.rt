@@ -1,27 +1,27 @@
-// Steps 1 and 2: the table's count, and the entry with its depth. Then the way on by its kind.
+// Steps 1 and 2: the table's count, and the entry with its depth. Then the way on by its kind. Each end writes its own words.
 ghost use mathlib.Core.Path.{_≡_};
-ghost use mathlib.Core.List.{[]};
-ghost use Prim.Native.Nat.{ℕ, _<_, _≤_};
+ghost use mathlib.Core.List.{[], _∷_};
+ghost use Prim.Native.Nat.{_+_, _≤_, _<_};
 ghost use lib.ListN.{length};
-ghost use Rattle.base.specs.Limits.{Sized};
+ghost use Rattle.base.specs.Limits.{Sized, tableWords};
+ghost use Rattle.answers.specs.Reading.{read};
 ghost use Rattle.answers.specs.Answers.{listed, answerFrom, answerTo, answerWords};
-ghost use Rattle.answers.specs.Steps.{opened, afterDepth, wanted, ancestorAt, afterKind};
-ghost use Rattle.query.specs.Parts.{Held, countFrom, OpenedBy};
-ghost use Rattle.query.specs.Lookups.{fromLookup, countsClimbs, askedAt, pastDepth};
+ghost use Rattle.answers.specs.Steps.{level, climbing, rating, afterKind};
+ghost use Rattle.query.specs.Parts.{Held, countIn, firstOf, OpenedBy, EnteredBy, numberAt};
 use crate::ends::end;
+use crate::ends::put;
 use crate::group::from_group;
-use crate::joining::with_four;
+use crate::joining::with_jump;
 use crate::jump::from_jump;
 use crate::reading::read;
 use answers::ANSWER_WORDS;
-use answers::Answer;
 use answers::Cells;
 use base::Node;
 use base::limits::HEADER_CELLS;
+use base::limits::HEADER_MARK;
 use base::limits::LOCAL_SPAN;
 use base::limits::MICRO_MARK;
 use base::limits::MOST_ENTRIES;
-use base::limits::entries_of;
 use base::limits::table_words;
 use base::numbers::ACCEPTED;
 use base::numbers::BROKEN;
@@ -30,35 +30,56 @@ use base::numbers::UNKNOWN;
 
 const HEADER: usize = HEADER_CELLS as usize;
 
-// The lookup of v at depth x, x climbs up from v, or at rating level x.
-pub enum Lookup {
-    Level,
-    Climb,
-    Rating,
-}
-
-// One of the three lookups, in words of the caller's. The level lookup, the climb, the rating lookup and the premium of other languages, and branch, ask here
-// alone, so that the compiler sets the steps in place once; each end writes its own words.
-pub fn look_words(table: &[u32], lookup: Lookup, v: Node, x: u32, words: &mut [u32; ANSWER_WORDS])
-    ensures { λ _. ⌜ now (words .exit) ≡ answerWords (answerTo (now (table .entry)) (opened (length (now (table .entry))) (fromLookup lookup (v .0) x))) ⌝ }
+// The level lookup, in words of the caller's.
+pub fn level_words(table: &[u32], v: Node, d: u32, words: &mut [u32; ANSWER_WORDS])
+    ensures { λ _. ⌜ now (words .exit) ≡ answerWords (answerTo (now (table .entry)) (level (length (now (table .entry))) (v .0) d)) ⌝ }
 {
-    let open = opened(table);
-    let n = open.n;
-    let cells = open.cells;
-    if n == 0 {
-        end(BROKEN, 0, cells, words);
+    let at = enter(table, v, words);
+    if at.n == 0 {
         return;
     }
-    from_entry(table, n, lookup, v, x, cells, words);
+    let cell = HEADER_CELLS + v.0;
+    if at.depth <= d {
+        put(number_at(at.depth, d), v.0, first_two(cell), words);
+        return;
+    }
+    above(table, at.n, cell, d, at.depth, words);
 }
 
-// As `look_words`, by value.
-pub(crate) fn look(table: &[u32], lookup: Lookup, v: Node, x: u32) -> Answer
-    ensures { λ r. ⌜ r ≡ answerFrom (now (table .entry)) (listed []) (opened (length (now (table .entry))) (fromLookup lookup (v .0) x)) ⌝ }
+// The entry k climbs above v, in words of the caller's.
+pub fn climb_words(table: &[u32], v: Node, k: u32, words: &mut [u32; ANSWER_WORDS])
+    ensures { λ _. ⌜ now (words .exit) ≡ answerWords (answerTo (now (table .entry)) (climbing (length (now (table .entry))) (v .0) k)) ⌝ }
 {
-    let mut words = [0u32; ANSWER_WORDS];
-    look_words(table, lookup, v, x, &mut words);
-    Answer::of_words(words)
+    let at = enter(table, v, words);
+    if at.n == 0 {
+        return;
+    }
+    let cell = HEADER_CELLS + v.0;
+    if at.depth < k {
+        end(TOO_DEEP, v.0, first_two(cell), words);
+        return;
+    }
+    if k == 0 {
+        end(ACCEPTED, v.0, first_two(cell), words);
+        return;
+    }
+    above(table, at.n, cell, at.depth - k, at.depth, words);
+}
+
+// The rating lookup, in words of the caller's: an entry that is not deeper is rated as itself.
+pub fn rating_words(table: &[u32], v: Node, d: u32, words: &mut [u32; ANSWER_WORDS])
+    ensures { λ _. ⌜ now (words .exit) ≡ answerWords (answerTo (now (table .entry)) (rating (length (now (table .entry))) (v .0) d)) ⌝ }
+{
+    let at = enter(table, v, words);
+    if at.n == 0 {
+        return;
+    }
+    let cell = HEADER_CELLS + v.0;
+    if at.depth <= d {
+        end(ACCEPTED, v.0, first_two(cell), words);
+        return;
+    }
+    above(table, at.n, cell, d, at.depth, words);
 }
 
 // What step 1 finds: the number of entries, 0 where the table is broken.
@@ -70,120 +91,107 @@ pub struct Count {
 pub(crate) fn opened(table: &[u32]) -> Count
     ensures { λ r. ⌜ OpenedBy (now (table .entry)) r ⌝ }
 {
-    let cells = Cells::new();
-    if table.len() < HEADER {
-        return Count { n: 0, cells };
-    }
-    let got = read(table, 0, cells);
-    let n = counted(table.len(), entries_of(got.word));
-    let more = got.cells;
-    Count { n, cells: more }
+    let n = counted(table);
+    let cells = first(table.len());
+    Count { n, cells }
 }
 
-// The number of entries that a cell 0 stands for, 0 where the table is broken.
-fn counted(words: usize, n: u32) -> u32
-    ensures { λ r. ⌜ r ≡ countFrom words n ⌝ }
+// The number of entries by cell 0 and the table's length, 0 where the table is broken.
+fn counted(table: &[u32]) -> u32
+    ensures { λ r. ⌜ r ≡ countIn (now (table .entry)) ⌝ }
 {
-    if MOST_ENTRIES < n {
+    let words = table.len();
+    if words < HEADER {
         return 0;
     }
+    let cell = table[0];
+    if cell <= HEADER_MARK {
+        return 0;
+    }
+    if HEADER_MARK + MOST_ENTRIES < cell {
+        return 0;
+    }
+    let n = cell - HEADER_MARK;
     if words < table_words(n) {
         return 0;
     }
     n
 }
 
-// Step 2: v.
-fn from_entry(
-    table: &[u32],
-    n: u32,
-    lookup: Lookup,
-    v: Node,
-    x: u32,
-    cells: Cells,
-    words: &mut [u32; ANSWER_WORDS],
-)
-    requires { ⌜ (Sized (now table) n) × (Held 1 cells) ⌝ }
-    ensures { λ _. ⌜ now (words .exit) ≡ answerWords (answerFrom (now (table .entry)) cells (fromLookup lookup (v .0) x n)) ⌝ }
+// The cells that step 1 reads: cell 0, where there are as many words as the header has.
+fn first(words: usize) -> Cells
+    ensures { λ r. ⌜ r ≡ firstOf words ⌝ }
 {
+    let cells = Cells::new();
+    if words < HEADER {
+        return cells;
+    }
+    cells.push(0)
+}
+
+// What step 2 finds: the number of entries and the depth of v. Where the lookup has ended, its words are written, and n is 0.
+pub struct Entered {
+    pub n: u32,
+    pub depth: u32,
+}
+
+fn enter(table: &[u32], v: Node, words: &mut [u32; ANSWER_WORDS]) -> Entered
+    ensures { λ r. ⌜ EnteredBy (now (table .entry)) (v .0) r (now (words .exit)) ⌝ }
+{
+    let open = opened(table);
+    let n = open.n;
+    let cells = open.cells;
+    if n == 0 {
+        end(BROKEN, 0, cells, words);
+        return Entered { n: 0, depth: 0 };
+    }
     if n <= v.0 {
         end(UNKNOWN, v.0, cells, words);
-        return;
+        return Entered { n: 0, depth: 0 };
     }
-    let got = read(table, HEADER_CELLS + v.0, cells);
+    let got = read(table, HEADER_CELLS, v.0, cells);
     let depth = got.word;
     let more = got.cells;
-    after_depth(table, n, lookup, v, x, depth, more, words);
-}
-
-// Step 2: the depth of v.
-fn after_depth(
-    table: &[u32],
-    n: u32,
-    lookup: Lookup,
-    v: Node,
-    x: u32,
-    depth: u32,
-    cells: Cells,
-    words: &mut [u32; ANSWER_WORDS],
-)
-    requires { ⌜ (Sized (now table) n) × (v .0 < n) × (Held 2 cells) ⌝ }
-    ensures { λ _. ⌜ now (words .exit) ≡ answerWords (answerFrom (now (table .entry)) cells (afterDepth n (countsClimbs lookup) (v .0) (askedAt lookup x depth) depth)) ⌝ }
-{
     if n <= depth {
-        end(BROKEN, 0, cells, words);
-        return;
+        end(BROKEN, 0, more, words);
+        return Entered { n: 0, depth: 0 };
     }
-    if depth < x {
-        end(past_depth(lookup), v.0, cells, words);
-        return;
-    }
-    ancestor_at(table, n, v, wanted(lookup, x, depth), depth, cells, words);
+    Entered { n, depth }
 }
 
-// The number where x is over the depth: too deep, but an entry is rated as itself.
-fn past_depth(lookup: Lookup) -> u32
-    ensures { λ r. ⌜ ((v : ℕ) → r ≡ pastDepth lookup v .number) ⌝ }
+// The cells read before KIND: cell 0, and that of DEPTH.
+fn first_two(cell: u32) -> Cells
+    ensures { λ r. ⌜ r ≡ listed (0 ∷ cell ∷ []) ⌝ }
 {
-    match lookup {
-        Lookup::Level => TOO_DEEP,
-        Lookup::Climb => TOO_DEEP,
-        Lookup::Rating => ACCEPTED,
-    }
+    let none = Cells::new();
+    let one = none.push(0);
+    one.push(cell)
 }
 
-// The depth wanted, where x is not over the depth.
-fn wanted(lookup: Lookup, x: u32, depth: u32) -> u32
-    requires { ⌜ x ≤ depth ⌝ }
-    ensures { λ r. ⌜ (r ≡ wanted (countsClimbs lookup) x depth) × (r ≤ depth) ⌝ }
+// The number that v gets as its own class at depth d, which is not above it.
+fn number_at(depth: u32, d: u32) -> u32
+    requires { ⌜ depth ≤ d ⌝ }
+    ensures { λ r. ⌜ r ≡ numberAt depth d ⌝ }
 {
-    match lookup {
-        Lookup::Level => x,
-        Lookup::Climb => depth - x,
-        Lookup::Rating => x,
+    if depth < d {
+        return TOO_DEEP;
     }
+    ACCEPTED
 }
 
-fn ancestor_at(
-    table: &[u32],
-    n: u32,
-    v: Node,
-    d: u32,
-    depth: u32,
-    cells: Cells,
-    words: &mut [u32; ANSWER_WORDS],
-)
-    requires { ⌜ (Sized (now table) n) × (v .0 < n) × (d ≤ depth) × (Held 2 cells) ⌝ }
-    ensures { λ _. ⌜ now (words .exit) ≡ answerWords (answerFrom (now (table .entry)) cells (ancestorAt n (v .0) d depth)) ⌝ }
+// Past step 2, from the cell of DEPTH of an entry that is deeper than d: KIND is n cells on. The table is indexed here and a copy is handed on, so that the compiler passes its
+// address in a register, and not in memory as it does a slice that a function hands on.
+fn above(table: &[u32], n: u32, cell: u32, d: u32, depth: u32, words: &mut [u32; ANSWER_WORDS])
+    requires { ⌜ (Sized (now table) n) × (cell + n < tableWords n) × (d < depth) ⌝ }
+    ensures { λ _. ⌜ now (words .exit) ≡ answerWords (answerFrom (now (table .entry)) (listed (0 ∷ cell ∷ [])) (read (cell + n) (afterKind n d depth))) ⌝ }
 {
-    if depth == d {
-        end(ACCEPTED, v.0, cells, words);
-        return;
-    }
-    let got = read(table, HEADER_CELLS + n + v.0, cells);
-    let kind = got.word;
-    let more = got.cells;
-    after_kind(table, n, d, depth, kind, more, words);
+    let rest = table;
+    let next = cell + n;
+    let at = next as usize;
+    let kind = table[at];
+    let two = first_two(cell);
+    let three = two.push(next);
+    after_kind(rest, n, d, depth, kind, three, words);
 }
 
 // By KIND: a group, or straight to step 4. Three cells were read.
@@ -214,7 +222,6 @@ fn after_kind(
         return;
     }
     let a = from_jump(table, n, d, kind);
-    let more = a.cells;
-    let all = with_four(cells, 3, more);
+    let all = with_jump(cells, 3, a);
     end(a.number, a.word, all, words);
 }

@@ -1,7 +1,7 @@
-// Reading the table: the one place that indexes it, which lists the cell.
+// Reading a section of the table, with the cell listed.
 ghost use mathlib.Core.Path.{_≡_};
 ghost use mathlib.Core.List.{List};
-ghost use Prim.Native.Nat.{ℕ, _<_};
+ghost use Prim.Native.Nat.{ℕ, _+_, _^_, _<_};
 ghost use lib.ListN.{length};
 ghost use Rattle.base.specs.Numbers.{broken};
 ghost use Rattle.answers.specs.Reading.{done};
@@ -13,6 +13,7 @@ use answers::Cells;
 use base::Node;
 use base::numbers::ACCEPTED;
 use base::numbers::BROKEN;
+use std::num::wrapping_add_u32;
 
 // A word that was read, and the cells read so far.
 pub struct Got {
@@ -20,10 +21,12 @@ pub struct Got {
     pub cells: Cells,
 }
 
-pub(crate) fn read(table: &[u32], cell: u32, cells: Cells) -> Got
-    requires { ⌜ cell < length (now table) ⌝ }
-    ensures { λ r. ⌜ r ≡ gotAt (now (table .entry)) cell cells ⌝ }
+// The word at a place of a section, which starts at a cell. The sum may wrap by its type, so that the compiler makes it once: for the list, and for the address.
+pub(crate) fn read(table: &[u32], start: u32, place: u32, cells: Cells) -> Got
+    requires { ⌜ (start + place < length (now table)) × (start + place < 2 ^ 32) ⌝ }
+    ensures { λ r. ⌜ r ≡ gotAt (now (table .entry)) (start + place) cells ⌝ }
 {
+    let cell = wrapping_add_u32(start, place);
     let at = cell as usize;
     let word = table[at];
     let more = cells.push(cell);

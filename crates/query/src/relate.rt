@@ -105,11 +105,11 @@ fn compared(table: &[u32], n: u32, u: Node, v: Node, cells: Cells) -> Relation
     ensures known { λ r. ⌜ (r .n ≡ n) × (Held 4 (r .cells)) ⌝ }
     ensures goes { λ r. ⌜ ((above : ℕ → Reading) (apart : Reading) → relatedFrom (now (table .entry)) r above apart ≡ answerFrom (now (table .entry)) cells (related (u .0) (v .0) above apart n)) ⌝ }
 {
-    let pre_u = read(table, HEADER_CELLS + PRE * n + u.0, cells);
+    let pre_u = read(table, HEADER_CELLS + PRE * n, u.0, cells);
     let one = pre_u.cells;
-    let size_u = read(table, HEADER_CELLS + SIZE * n + u.0, one);
+    let size_u = read(table, HEADER_CELLS + SIZE * n, u.0, one);
     let two = size_u.cells;
-    let pre_v = read(table, HEADER_CELLS + PRE * n + v.0, two);
+    let pre_v = read(table, HEADER_CELLS + PRE * n, v.0, two);
     let three = pre_v.cells;
     Relation {
         number: ACCEPTED,

@@ -34,7 +34,7 @@ answer-held t p a e = rw e (record { list = trace t p; long = refl; is = refl })
 
 -- step 4's answer
 module _ (t : List ℕ) (n d jump : ℕ) (a : Answer) (e : a ≡ answerFrom t (listed []) (fromJump n d jump)) where
-  jump-answer : a ≡ answerTo t (fromJump n d jump)
+  pub jump-answer : a ≡ answerTo t (fromJump n d jump)
   jump-answer = e ∙ whole t 4 (fromJump n d jump) (jump-within n d jump) (lit≤ tt)
 
   pub jump-four : a .cells .count ≤ 4

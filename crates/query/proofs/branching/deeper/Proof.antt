@@ -10,7 +10,6 @@ use Rattle.answers.specs.declared.Answer.{Answer}
 use Rattle.answers.proofs.Bounds.{level-within}
 use Rattle.answers.proofs.ProgramAnswers.{few}
 use Rattle.answers.proofs.AnswerWords.{words-same}
-use Rattle.query.specs.Lookups.{fromLookup}
 use Rattle.query.proofs.joining.Joins.{answer-held}
 use Rattle.query.proofs.relate.Relations.{inner-goes}
 use Rattle.query.proofs.Programs.{steps, le-no}
@@ -25,7 +24,7 @@ ten : (t : List ℕ) (v d : ℕ) (a : Answer) → a ≡ answerTo t (level (lengt
 ten t v d a e = rw e (few t 10 (level (length t) v d) (level-within (length t) v d))
 
 pub deeper-spec : {M : Type 1} → statement M
-unfolding deeper inside level fromLookup
+unfolding deeper inside
 deeper-spec =
     tie.close
     (tie.spec
@@ -36,16 +35,16 @@ deeper-spec =
     (λ c κs. search needs)
     (λ c κs.
     let inner = c .before in
-    let is = looked _ _ _ _ _ (inner .of-words .ensures) (inner .before .look-words .ensures) in
+    let is = looked _ _ _ _ _ (inner .of-words .ensures) (inner .before .level-words .ensures) in
     (inner .before .before .before .before .before .pre .1, answer-held _ _ _ is, ten _ _ _ _ is))
     (λ c κs. search needs)
     (λ c.
     let joined = c .before .before .before in
     let inner = joined .before .before in
     le-no _ _ _ _ _ _ _ (inner .before .before .before .if1 .left)
-    (inner-goes _ _ _ (level _ _ _) inside (inner .of-words .result) (joined .with-ten .result) (looked _ _ _ _ _ (inner .of-words .ensures) (inner .before .look-words .ensures)) (joined .with-ten .ensures) (search steps)))
+    (inner-goes _ _ _ (level _ _ _) inside (inner .of-words .result) (joined .with-ten .result) (looked _ _ _ _ _ (inner .of-words .ensures) (inner .before .level-words .ensures)) (joined .with-ten .ensures) (search steps)))
     (λ c.
     let joined = c .before .before in
     let inner = joined .before .before in
     le-no _ _ _ _ _ _ _ (inner .before .before .before .if1 .left)
-    (inner-goes _ _ _ (level _ _ _) inside (inner .of-words .result) (joined .with-ten .result) (looked _ _ _ _ _ (inner .of-words .ensures) (inner .before .look-words .ensures)) (joined .with-ten .ensures) (search steps))))
+    (inner-goes _ _ _ (level _ _ _) inside (inner .of-words .result) (joined .with-ten .result) (looked _ _ _ _ _ (inner .of-words .ensures) (inner .before .level-words .ensures)) (joined .with-ten .ensures) (search steps))))

@@ -12,7 +12,6 @@ strictly-spec =
     tie.close
     (tie.spec
     (λ c. search steps)
-    (λ c. search needs)
     (λ c κs. search needs)
-    (λ c κs. (search needs, got-held _ _ _ _ 4 (c .before .read .ensures) (c .before .before .before .before .before .before .before .pre .2) (lit< tt)))
+    (λ c κs. (search needs, got-held _ _ _ _ 4 (c .before .read .ensures) (c .before .before .before .before .before .before .pre .2) (lit< tt)))
     (λ c. search steps))

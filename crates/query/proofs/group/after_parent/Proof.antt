@@ -1,5 +1,7 @@
 -- `group::after_parent` meets its contract. Assumes nothing.
-use mathlib.Core.Path.{ap, _∙_}
+use mathlib.Core.Path.{_≡_, ap, _∙_}
+use Prim.Native.Nat.{_+_}
+use native.Mathlib.Omega.{arith}
 use lib.Dec.{lit<}
 use borrow.Author.Needs.{needs}
 use Rattle.answers.specs.Answers.{answerWords}
@@ -16,9 +18,16 @@ after-parent-spec =
     (λ c κs. search needs)
     (λ c. c .end .ensures ∙ ap answerWords (search steps))
     (λ c κs. search needs)
-    (λ c. c .end2 .ensures ∙ ap answerWords (search steps))
-    (λ c. search needs)
+    (λ c.
+    let none = c .before .before in
+    let args = none .before .before .before .before .args in
+    let here : args .d + args .left ≡ args .d = omega (arith, none .if2 .taken) in
+    c .end2 .ensures ∙ ap answerWords (search steps))
     (λ c. search needs)
     (λ c κs. search needs)
-    (λ c κs. (search needs, got-held _ _ _ _ 5 (c .before .before .read .ensures) (c .before .before .before .before .before .before .before .before .pre .1) (lit< tt)))
-    (λ c. c .after-parent-kind .ensures ∙ ap answerWords (search steps)))
+    (λ c κs. (search needs, got-held _ _ _ _ 5 (c .before .before .read .ensures) (c .before .before .before .before .before .before .before .pre .1) (lit< tt)))
+    (λ c.
+    let some = c .before .before .before .before in
+    let args = some .before .before .before .before .args in
+    let below : args .d + args .left ≡ args .d → ⊥ = λ z. some .if2 .left (omega (arith, z)) in
+    c .after-parent-kind .ensures ∙ ap answerWords (search steps)))

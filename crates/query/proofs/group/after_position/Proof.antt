@@ -20,7 +20,6 @@ after-position-spec =
     (λ c. c .end2 .ensures ∙ ap answerWords (search steps))
     (λ c. search needs)
     (λ c. search needs)
-    (λ c. search needs)
     (λ c κs. search needs)
     (λ c κs. search needs)
     (λ c. c .end3 .ensures ∙ ap answerWords (search steps))

@@ -1,5 +1,7 @@
 -- `group::in_group` meets its contract. Assumes nothing.
 use mathlib.Core.Path.{_≡_, ap, _∙_}
+use Prim.Native.Nat.{_+_, _-_}
+use native.Mathlib.Omega.{arith}
 use lib.Dec.{lit<}
 use borrow.Author.Needs.{needs}
 use Rattle.base.specs.Limits.{groupLimit}
@@ -16,7 +18,8 @@ returns c =
     let deep = c .before .before .before .before .before in
     let start = deep .before .before in
     let k = deep .depth .ensures ∙ start .pre .0 .packs .depth (start .pre .0 .local-in) in
-    c .after-parent .ensures ∙ ap answerWords (rw (← k) (search steps))
+    let left : start .args .d + (start .args .depth - start .args .d - deep .depth .result - 1) ≡ start .args .depth - deep .depth .result - 1 = omega arith in
+    c .after-parent .ensures ∙ ap answerWords (rw (← k, ← left) (search steps))
 
 returns-2 : tie.Need-returns-2
 unfolding inGroup
@@ -38,13 +41,12 @@ in-group-spec =
     (λ c. search needs)
     (λ c. search needs)
     (λ c. search needs)
-    (λ c. search needs)
     (λ c κs. search needs)
+    (λ c. search needs)
     (λ c. search needs)
     (λ c. search needs)
     (λ c κs. (search needs, got-held _ _ _ _ 4 (c .before .before .read .ensures) (c .before .before .before .before .before .before .pre .1) (lit< tt)))
     returns
-    (λ c. search needs)
     (λ c. search needs)
     (λ c. search needs)
     (λ c. search needs)

@@ -24,4 +24,4 @@ with-four-spec =
     (λ c. search needs)
     (λ c. search needs)
     (λ c. search needs)
-    (λ c. let start = c .before .before in let p = start .pre in four-behind (start .args .cells) (start .args .more) (start .args .i) (p .0) (p .2) (p .1) (p .3)))
+    (λ c. let start = c .before .before in let p = start .pre in four-behind (start .args .cells) (start .args .more) (start .args .i) (p .0) (p .2 .held) (p .1) (p .2 .four)))

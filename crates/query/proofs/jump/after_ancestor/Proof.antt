@@ -14,7 +14,6 @@ after-ancestor-spec =
     (λ c. search steps)
     (λ c. search needs)
     (λ c. search needs)
-    (λ c. search needs)
     (λ c κs. search needs)
     (λ c κs. search needs)
     (λ c. search steps))

@@ -17,7 +17,6 @@ after-ladpos-spec =
     (λ c. search steps)
     (λ c. search needs)
     (λ c. search needs)
-    (λ c. search needs)
     (λ c κs. search needs)
     (λ c κs. search needs)
     (λ c. search (steps, c .after-class .ensures)))

@@ -20,7 +20,6 @@ from-jump-spec =
     (λ c. search needs)
     (λ c. search needs)
     (λ c. search needs)
-    (λ c. search needs)
     (λ c κs. search needs)
     (λ c κs. search needs)
     (λ c. let s = c .before .before .before .before .before .before .before .args in let h : s .jump < jumpRoom (s .n) = omega (arith, c .before .before .before .before .jump-room .ensures) in rw (← (c .before .before .before .before .before .new .ensures)) (search steps)))

@@ -4,7 +4,8 @@ use lib.Dec.{lit≤}
 use borrow.Author.Needs.{needs}
 use Rattle.answers.specs.Answers.{answerWords}
 use Rattle.answers.specs.Steps.{afterKind}
-use Rattle.query.proofs.joining.Joins.{jump-held, jump-four, jump-goes}
+use Rattle.query.proofs.joining.Joins.{jump-goes}
+use Rattle.query.proofs.joining.Recounts.{jump-cells}
 use Rattle.query.proofs.Programs.{steps, le-no}
 use Rattle.query.proofs.look.after_kind.Statement.{statement}
 use Rattle.query.proofs.look.after_kind.Tie as tie
@@ -17,9 +18,9 @@ after-kind-spec =
     (λ c κs. search needs)
     (λ c. c .from-group .ensures ∙ ap answerWords (search steps))
     (λ c κs. search needs)
-    (λ c κs. (c .before .before .before .before .pre .2, lit≤ tt, jump-held _ _ _ _ _ (c .before .from-jump .ensures), jump-four _ _ _ _ _ (c .before .from-jump .ensures)))
+    (λ c κs. (c .before .before .before .pre .2, lit≤ tt, jump-cells _ _ _ _ _ (c .from-jump .ensures)))
     (λ c κs. search needs)
     (λ c.
     let all = c .before .before in
-    let jump = all .before .before in
-    c .end .ensures ∙ ap answerWords (le-no _ _ _ _ _ _ _ (jump .before .if1 .left) (jump-goes _ _ _ _ _ (jump .from-jump .ensures) _ _ (all .with-four .ensures)))))
+    let jump = all .before in
+    c .end .ensures ∙ ap answerWords (le-no _ _ _ _ _ _ _ (jump .before .if1 .left) (jump-goes _ _ _ _ _ (jump .from-jump .ensures) _ _ (all .with-jump .ensures)))))

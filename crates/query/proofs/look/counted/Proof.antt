@@ -1,16 +1,21 @@
 -- `look::counted` meets its contract. Assumes nothing.
+use denote.Ref.{now}
+use native.Mathlib.Omega.{arith}
 use borrow.Author.Needs.{needs}
-use borrow.Author.Tests.{lt-ltb, le-ltb}
-use Rattle.query.specs.Parts.{countFrom}
+use Rattle.query.proofs.look.Counts.{under-words, under-mark, over-most, under-room, with-room}
 use Rattle.query.proofs.look.counted.Statement.{statement}
 use Rattle.query.proofs.look.counted.Tie as tie
 
 pub counted-spec : {M : Type 1} → statement M
-unfolding countFrom
 counted-spec =
     tie.close
     (tie.spec
-    (λ c. simp (lt-ltb _ _ (c .if1 .taken)))
+    (λ c. under-words _ (c .if1 .taken))
+    (λ c. search needs)
+    (λ c. under-mark _ (c .before .before .if1 .left) (c .if2 .taken))
+    (λ c. search needs)
+    (λ c. over-most _ (c .before .before .before .if1 .left) (c .if3 .taken))
+    (λ c. search needs)
     (λ c κs. search needs)
-    (λ c. rw (← (c .before .table-words .ensures)) (simp (le-ltb _ _ (c .before .before .if1 .left), lt-ltb _ _ (c .if2 .taken))))
-    (λ c. rw (← (c .before .table-words .ensures)) (simp (le-ltb _ _ (c .before .before .if1 .left), le-ltb _ _ (c .if2 .left)))))
+    (λ c. let most = c .before .before in under-room _ (most .before .before .before .if1 .left) (most .if3 .left) (rw (← (c .before .table-words .ensures)) (c .if4 .taken)))
+    (λ c. let most = c .before .before in with-room _ (most .before .before .before .if1 .left) (most .if3 .left) (rw (← (c .before .table-words .ensures)) (c .if4 .left))))

@@ -18,22 +18,19 @@ compared-spec =
     (tie.spec
     (λ c. search needs)
     (λ c. search needs)
-    (λ c. search needs)
     (λ c κs. search needs)
     (λ c. search needs)
     (λ c. search needs)
-    (λ c. search needs)
     (λ c κs. search needs)
-    (λ c. search needs)
     (λ c. search needs)
     (λ c. search needs)
     (λ c κs. search needs)
     (λ c κs. search needs)
     (λ c.
     let third = c .before .before in
-    let second = third .before .before .before in
-    let first = second .before .before .before in
-    let start = first .before .before .before in (
+    let second = third .before .before in
+    let first = second .before .before in
+    let start = first .before .before in (
       (
         refl,
         got-held _ _ _ _ 3 (third .read3 .ensures) (got-held _ _ _ _ 2 (second .read2 .ensures) (got-held _ _ _ _ 1 (first .read .ensures) (start .pre .3) (lit< tt)) (lit< tt)) (lit< tt),

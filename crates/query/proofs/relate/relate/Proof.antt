@@ -3,7 +3,7 @@ use mathlib.Core.Path.{sym, _∙_}
 use native.Mathlib.Omega.{arith}
 use borrow.Author.Needs.{needs}
 use Rattle.query.specs.Parts.{relatedFrom}
-use Rattle.query.proofs.look.Counts.{open-broken}
+use Rattle.query.proofs.look.Counts.{open-broken, one-held}
 use Rattle.query.proofs.relate.Relations.{opened-related}
 use Rattle.query.proofs.relate.relate.Statement.{statement}
 use Rattle.query.proofs.relate.relate.Tie as tie
@@ -17,7 +17,7 @@ relate-spec =
     (λ c.
     let count = c .before .before .before .opened in
     rw (c .refused .ensures) (λ e. absurd (omega arith), λ above apart. unfold relatedFrom in (sym (open-broken _ (count .result) _ (c .before .if1 .taken)) ∙ count .ensures .goes _)))
-    (λ c κs. let count = c .before .before .opened in (count .ensures .room (c .if1 .left), count .ensures .one (c .if1 .left)))
+    (λ c κs. let count = c .before .before .opened in (count .ensures .room (c .if1 .left), one-held _ (count .ensures .one (c .if1 .left))))
     (λ c.
     let test = c .before in
     let count = test .before .before .opened in

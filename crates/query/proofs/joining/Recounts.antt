@@ -1,0 +1,104 @@
+-- The cells of step 4 are told from unused places: none of them is cell 0. Assumes nothing.
+use mathlib.Core.Path.{_≡_, refl, sym, ap, _∙_}
+use mathlib.Core.Bool.{Bool, true, false, cond}
+use mathlib.Core.List.{List, [], _∷_}
+use mathlib.Core.Option.{Option, none, some, Option·elim}
+use Prim.Native.Nat.{ℕ, zero, suc, _+_, _≤_, _<_}
+use native.Mathlib.Omega.{arith}
+use lib.ListN.{length, getD}
+use lib.Dec.{leb, ltb, lit<}
+use borrow.Author.Tests.{ne-eqb}
+use Rattle.base.specs.Lists.{padded}
+use Rattle.base.specs.Numbers.{Outcome}
+use Rattle.answers.specs.Reading.{Reading, done, read, ifLe, ifLt, ifNone, trace, wordAt}
+use Rattle.answers.specs.Answers.{listed, answerTo, answerFrom}
+use Rattle.answers.specs.Steps.{afterClass, afterLadpos, afterAncestor, readAncestor, afterJumpDepth, fromJump}
+use Rattle.answers.specs.declared.Answer.{Answer}
+use Rattle.answers.specs.declared.Cells.{Cells}
+use Rattle.answers.proofs.ProgramAnswers.{listed-at}
+use Rattle.query.specs.Parts.{JumpCells, oneOf}
+use Rattle.query.proofs.joining.Joins.{jump-answer, jump-four, jump-held}
+
+-- a program that does not read cell 0
+unfoldable PastFirst : Reading → Type 0
+PastFirst (done o) = Unit
+PastFirst (read cell k) = (0 < cell) × ((w : ℕ) → PastFirst (k w))
+
+past-done : (o : Outcome) → PastFirst (done o)
+unfolding PastFirst
+past-done o = tt
+
+past-read : (cell : ℕ) (k : ℕ → Reading) → 0 < cell → ((w : ℕ) → PastFirst (k w)) → PastFirst (read cell k)
+unfolding PastFirst
+past-read cell k h i = (h, i)
+
+module _ (x y : ℕ) (p q : Reading) (h : PastFirst p) (i : PastFirst q) where
+  past-cond : (b : Bool) → PastFirst (cond b p q)
+  past-cond true = h
+  past-cond false = i
+
+  past-le : PastFirst (ifLe x y p q)
+  unfolding ifLe
+  past-le = past-cond (leb x y)
+
+  past-lt : PastFirst (ifLt x y p q)
+  unfolding ifLt
+  past-lt = past-cond (ltb x y)
+
+past-none : (o : Option ℕ) (p : Reading) (q : ℕ → Reading) → PastFirst p → ((e : ℕ) → PastFirst (q e)) → PastFirst (ifNone o p q)
+unfolding ifNone Option·elim
+past-none none p q h i = h
+past-none (some e) p q h i = i e
+
+ruleset past = (past-done, past-read, past-le, past-lt, past-none, arith)
+
+jump-past : (n d jump : ℕ) → PastFirst (fromJump n d jump)
+unfolding fromJump afterJumpDepth readAncestor afterAncestor afterLadpos afterClass
+jump-past n d jump =
+    past-le _ _ _ _ (past-done _)
+    (past-read _ _ (omega arith) (λ depth.
+    past-le _ _ _ _ (past-done _)
+    (past-lt _ _ _ _ (past-done _)
+    (past-none _ _ _ (past-done _) (λ e.
+    past-read _ _ (omega arith) (λ w.
+    past-le _ _ _ _ (past-done _)
+    (past-read _ _ (omega arith) (λ index.
+    past-lt _ _ _ _ (past-done _)
+    (past-le _ _ _ _ (past-done _)
+    (past-read _ _ (omega arith) (λ class. past-le _ _ _ _ (past-done _) (past-done _))))))))))))
+
+trace-past : (t : List ℕ) (p : Reading) → PastFirst p → (i : ℕ) → i < length (trace t p) → 0 < getD (trace t p) i 0
+unfolding trace PastFirst
+trace-past t (done o) h i b = absurd (omega arith)
+trace-past t (read cell k) h zero b = h .0
+trace-past t (read cell k) h (suc i) b = trace-past t (k (wordAt t cell)) (h .1 (wordAt t cell)) i (omega arith)
+
+jump-used : (t : List ℕ) (n d jump i : ℕ) → i < answerTo t (fromJump n d jump) .cells .count → 0 < getD (answerTo t (fromJump n d jump) .cells .at) i 0
+unfolding answerTo listed
+jump-used t n d jump i b = rw (listed-at (trace t (fromJump n d jump)) i b) (trace-past t (fromJump n d jump) (jump-past n d jump) i b)
+
+pub jump-cells : (t : List ℕ) (n d jump : ℕ) (a : Answer) → a ≡ answerFrom t (listed []) (fromJump n d jump) → JumpCells (a .cells)
+jump-cells t n d jump a e = record { held = jump-held t n d jump a e; four = jump-four t n d jump a e; used = rw (jump-answer t n d jump a e) (jump-used t n d jump) }
+
+-- the places that are used are the cells
+one-used : (cell : ℕ) → 0 < cell → oneOf cell ≡ 1
+one-used cell h = simp (ne-eqb cell 0 (λ z. absurd (omega arith)))
+
+abbrev pub ones : Cells → ℕ
+ones cs = oneOf (getD (cs .at) 0 0) + oneOf (getD (cs .at) 1 0) + oneOf (getD (cs .at) 2 0) + oneOf (getD (cs .at) 3 0)
+
+count-is : (xs : List ℕ) → length xs ≤ 4 → ((i : ℕ) → i < length xs → 0 < getD xs i 0) → ones (listed xs) ≡ length xs
+unfolding listed padded
+count-is [] h u = refl
+count-is (a ∷ []) h u = rw (one-used a (u 0 (lit< tt))) refl
+count-is (a ∷ b ∷ []) h u = rw (one-used a (u 0 (lit< tt)), one-used b (u 1 (lit< tt))) refl
+count-is (a ∷ b ∷ c ∷ []) h u = rw (one-used a (u 0 (lit< tt)), one-used b (u 1 (lit< tt)), one-used c (u 2 (lit< tt))) refl
+count-is (a ∷ b ∷ c ∷ d ∷ []) h u = rw (one-used a (u 0 (lit< tt)), one-used b (u 1 (lit< tt)), one-used c (u 2 (lit< tt)), one-used d (u 3 (lit< tt))) refl
+count-is (a ∷ b ∷ c ∷ d ∷ e ∷ xs) h u = absurd (omega arith)
+
+pub recount : (cs : Cells) → JumpCells cs → ones cs ≡ cs .count
+recount cs j =
+    let xs = j .held .list in
+    let is = j .held .is in
+    let long = j .held .long in
+    ap ones is ∙ count-is xs (omega (arith, long, j .four)) (λ i b. rw (← (listed-at xs i b), ← is) (j .used i (omega (arith, long)))) ∙ long

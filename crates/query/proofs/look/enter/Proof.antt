@@ -1,0 +1,73 @@
+-- `look::enter` meets its contract. Assumes nothing.
+use mathlib.Core.Path.{_≡_, refl, sym, ap, _∙_}
+use borrow.Author.Needs.{needs}
+use Rattle.answers.specs.Answers.{answerWords}
+use Rattle.query.specs.Parts.{entering}
+use Rattle.query.specs.declared.reading.Got.{Got}
+use Rattle.query.proofs.look.Counts.{open-broken, one-held, enters, two-cells}
+use Rattle.query.proofs.Programs.{steps}
+use Rattle.query.proofs.look.enter.Statement.{statement}
+use Rattle.query.proofs.look.enter.Tie as tie
+
+returns : tie.Need-returns
+unfolding entering
+returns c =
+    let test = c .before .before in
+    let count = test .before .before .opened in
+    record {
+      room = λ z. absurd (z refl);
+      known = λ z. absurd (z refl);
+      goes = λ z. absurd (z refl);
+      ended = λ z next. c .end .ensures ∙ ap answerWords (sym (open-broken _ (count .result) _ (test .if1 .taken)) ∙ count .ensures .goes _);
+    }
+
+returns-2 : tie.Need-returns-2
+returns-2 c =
+    let test = c .before .before .before .before in
+    let count = test .before .before .opened in
+    record {
+      room = λ z. absurd (z refl);
+      known = λ z. absurd (z refl);
+      goes = λ z. absurd (z refl);
+      ended = λ z next. c .end2 .ensures ∙ ap answerWords (enters _ _ (count .result) (count .ensures) (test .if1 .left) next _ (search steps));
+    }
+
+returns-3 : tie.Need-returns-3
+returns-3 c =
+    let test = c .before .before .before .before .before .before .before in
+    let count = test .before .before .opened in
+    record {
+      room = λ z. absurd (z refl);
+      known = λ z. absurd (z refl);
+      goes = λ z. absurd (z refl);
+      ended = λ z next. c .end3 .ensures ∙ ap answerWords (enters _ _ (count .result) (count .ensures) (test .if1 .left) next _ (search steps));
+    }
+
+returns-4 : tie.Need-returns-4
+returns-4 c =
+    let got = c .before .before in
+    let known = got .before in
+    let test = known .before .before in
+    let count = test .before .before .opened in
+    let left = test .if1 .left in
+    let cells = ap (λ (g : Got). g .cells) (got .read .ensures) ∙ two-cells (count .result .cells) _ (count .ensures .one left) in
+    record {
+      room = λ z. count .ensures .room left;
+      known = λ z. known .if2 .left;
+      goes = λ z next. enters _ _ (count .result) (count .ensures) left next _ (rw (← cells) (search steps));
+      ended = λ z. absurd (left z);
+    }
+
+pub enter-spec : {M : Type 1} → statement M
+enter-spec =
+    tie.close
+    (tie.spec
+    (λ c κs. search needs)
+    (λ c κs. search needs)
+    returns
+    (λ c κs. search needs)
+    returns-2
+    (λ c κs. let test = c .before .before in let room = test .before .before .opened .ensures .room (test .if1 .left) in search (needs, room))
+    (λ c κs. search needs)
+    returns-3
+    returns-4)
