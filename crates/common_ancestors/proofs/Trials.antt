@@ -17,11 +17,9 @@ use Rattle.tree.specs.Questions.{ancestryOf}
 use Rattle.tree.proofs.Branches.{ancestry-iff}
 use Rattle.tree.proofs.Meanings.{climb-iff}
 use Rattle.answers.specs.Answers.{answerTo, answerWords}
-use Rattle.answers.specs.Steps.{climbing, opened}
+use Rattle.answers.specs.Steps.{climbing}
 use Rattle.climbs.proofs.TableWords.{small, tree}
 use Rattle.climbs.proofs.Questions.{climb-right}
-use Rattle.query.specs.Lookups.{fromLookup}
-use Rattle.query.specs.declared.look.Lookup.the-variants.{Climb}
 use Rattle.query.proofs.Ratings.{firstTwo, outcome-words}
 use Rattle.common_ancestors.specs.Parts.{Table, Tells}
 
@@ -42,6 +40,6 @@ module _ (ps t : List ℕ) (n : ℕ) (of : Table ps t n) where
         iff = ancestry-iff ps (small ps t (of .prepared)) (tree ps t (of .prepared)) w b (omega (arith, of .count)) (omega (arith, of .count))
 
   -- a lookup's words have the entry so many climbs above
-  pub climb-reaches : (a k x : ℕ) (words : List ℕ) → words ≡ answerWords (answerTo t (opened (length t) (fromLookup Climb a k))) → up ps k a ≡ some x → firstTwo words ≡ accepted x
-  unfolding climbing fromLookup answerTo
+  pub climb-reaches : (a k x : ℕ) (words : List ℕ) → words ≡ answerWords (answerTo t (climbing (length t) a k)) → up ps k a ≡ some x → firstTwo words ≡ accepted x
+  unfolding answerTo
   climb-reaches a k x words e r = outcome-words _ words e ∙ climb-right ps t (of .prepared) a k ∙ climb-iff ps a k x .1 r

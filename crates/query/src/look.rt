@@ -22,6 +22,7 @@ use base::limits::HEADER_MARK;
 use base::limits::LOCAL_SPAN;
 use base::limits::MICRO_MARK;
 use base::limits::MOST_ENTRIES;
+use base::limits::entries_of;
 use base::limits::table_words;
 use base::numbers::ACCEPTED;
 use base::numbers::BROKEN;
@@ -66,20 +67,20 @@ pub fn climb_words(table: &[u32], v: Node, k: u32, words: &mut [u32; ANSWER_WORD
     above(table, at.n, cell, at.depth - k, at.depth, words);
 }
 
-// The rating lookup, in words of the caller's: an entry that is not deeper is rated as itself.
-pub fn rating_words(table: &[u32], v: Node, d: u32, words: &mut [u32; ANSWER_WORDS])
-    ensures { λ _. ⌜ now (words .exit) ≡ answerWords (answerTo (now (table .entry)) (rating (length (now (table .entry))) (v .0) d)) ⌝ }
+// The rating lookup, in words of the caller's: an entry that is not deeper than the level is rated as itself.
+pub fn rating_words(table: &[u32], v: Node, level: u32, words: &mut [u32; ANSWER_WORDS])
+    ensures { λ _. ⌜ now (words .exit) ≡ answerWords (answerTo (now (table .entry)) (rating (length (now (table .entry))) (v .0) level)) ⌝ }
 {
     let at = enter(table, v, words);
     if at.n == 0 {
         return;
     }
     let cell = HEADER_CELLS + v.0;
-    if at.depth <= d {
-        end(ACCEPTED, v.0, first_two(cell), words);
+    if at.depth <= level {
+        put(ACCEPTED, v.0, first_two(cell), words);
         return;
     }
-    above(table, at.n, cell, d, at.depth, words);
+    above(table, at.n, cell, level, at.depth, words);
 }
 
 // What step 1 finds: the number of entries, 0 where the table is broken.
@@ -111,7 +112,7 @@ fn counted(table: &[u32]) -> u32
     if HEADER_MARK + MOST_ENTRIES < cell {
         return 0;
     }
-    let n = cell - HEADER_MARK;
+    let n = entries_of(cell);
     if words < table_words(n) {
         return 0;
     }

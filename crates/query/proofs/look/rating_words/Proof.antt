@@ -17,7 +17,7 @@ returns-2 c =
     let two = c .before .before in
     let low = two .before in
     let test = low .before .before .before in
-    c .end .ensures ∙ ap answerWords
+    c .put .ensures ∙ ap answerWords
     (rw (two .first-two .ensures) (rated-own _ _ _ _ _ _ (low .if2 .taken)) ∙ test .before .before .enter .ensures .goes (test .if1 .left) (atRating _ _) ∙ whole-rating _ _ _)
 
 returns-3 : tie.Need-returns-3
