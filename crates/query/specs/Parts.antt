@@ -44,12 +44,11 @@ abbrev pub pickAnswer : Bool → Answer → Answer → Answer
 pickAnswer true a b = a
 pickAnswer false a b = b
 
--- an entry of depth `depth`, with local number `local` in a group of shape `shape`, and its climbs; it is deeper than d
-pub record InGroup (t : List ℕ) (n d depth group shape local climbs : ℕ) : Type 0 where
+-- an entry with local number `local` in a group of shape `shape`, and the row of its climbs
+pub record InGroup (t : List ℕ) (n group shape local row : ℕ) : Type 0 where
   pub sized : Sized t n
   pub group-in : group < n
-  pub deeper : d < depth
-  pub packs : Packs shape local climbs
+  pub packs : Packs shape local row
   pub local-in : reached groupLimit shape local 0 ≡ none → ⊥
 
 -- step 1's tests of a count n on a table of `len` words: n where it passes, 0 where the table is broken

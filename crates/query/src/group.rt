@@ -1,4 +1,4 @@
-// Step 3: within a group, and out of it.
+// Step 3: within a group, and out of it. The answer is so many climbs up, at depth d.
 ghost use mathlib.Core.Path.{_≡_};
 ghost use Prim.Native.Nat.{_+_, _<_};
 ghost use Rattle.base.specs.Limits.{Sized};
@@ -28,14 +28,14 @@ pub(crate) fn from_group(
     table: &[u32],
     n: u32,
     d: u32,
-    depth: u32,
+    climbs: u32,
     group: u32,
     local: u32,
     cells: Cells,
     words: &mut [u32; ANSWER_WORDS],
 )
-    requires { ⌜ (Sized (now table) n) × (d < depth) × (Held 3 cells) ⌝ }
-    ensures { λ _. ⌜ now (words .exit) ≡ answerWords (answerFrom (now (table .entry)) cells (fromGroup n d depth group local)) ⌝ }
+    requires { ⌜ (Sized (now table) n) × (Held 3 cells) ⌝ }
+    ensures { λ _. ⌜ now (words .exit) ≡ answerWords (answerFrom (now (table .entry)) cells (fromGroup n d (d + climbs) group local)) ⌝ }
 {
     if n <= group {
         end(BROKEN, 0, cells, words);
@@ -49,7 +49,7 @@ pub(crate) fn from_group(
     );
     let shape = got.word;
     let more = got.cells;
-    after_shape(table, n, d, depth, group, local, shape, more, words);
+    after_shape(table, n, d, climbs, group, local, shape, more, words);
 }
 
 // The shape, which is one of a group that has the local number.
@@ -57,37 +57,26 @@ fn after_shape(
     table: &[u32],
     n: u32,
     d: u32,
-    depth: u32,
+    climbs: u32,
     group: u32,
     local: u32,
     shape: u32,
     cells: Cells,
     words: &mut [u32; ANSWER_WORDS],
 )
-    requires { ⌜ (Sized (now table) n) × (group < n) × (d < depth) × (Held 4 cells) ⌝ }
-    ensures { λ _. ⌜ now (words .exit) ≡ answerWords (answerFrom (now (table .entry)) cells (afterShape n d depth group local shape)) ⌝ }
+    requires { ⌜ (Sized (now table) n) × (group < n) × (Held 4 cells) ⌝ }
+    ensures { λ _. ⌜ now (words .exit) ≡ answerWords (answerFrom (now (table .entry)) cells (afterShape n d (d + climbs) group local shape)) ⌝ }
 {
     if SHAPE_COUNT <= shape {
         end(BROKEN, 0, cells, words);
         return;
     }
-    let climbs = climbs_of(shape, local);
-    if climbs.reached(0) == NO_LOCAL {
+    let row = climbs_of(shape, local);
+    if row.reached(0) == NO_LOCAL {
         end(BROKEN, 0, cells, words);
         return;
     }
-    in_group(
-        table,
-        n,
-        d,
-        depth,
-        group,
-        shape,
-        local,
-        climbs,
-        cells,
-        words,
-    );
+    in_group(table, n, d, climbs, group, shape, local, row, cells, words);
 }
 
 // Within the group where the climbs asked end there, else from the group's parent. k is the depth in the group.
@@ -95,19 +84,19 @@ fn in_group(
     table: &[u32],
     n: u32,
     d: u32,
-    depth: u32,
+    climbs: u32,
     group: u32,
     shape: u32,
     local: u32,
-    climbs: Climbs,
+    row: Climbs,
     cells: Cells,
     words: &mut [u32; ANSWER_WORDS],
 )
-    requires { ⌜ (InGroup (now table) n d depth group shape local (climbs .0)) × (Held 4 cells) ⌝ }
-    ensures { λ _. ⌜ now (words .exit) ≡ answerWords (answerFrom (now (table .entry)) cells (inGroup n d depth group local shape)) ⌝ }
+    requires { ⌜ (InGroup (now table) n group shape local (row .0)) × (Held 4 cells) ⌝ }
+    ensures { λ _. ⌜ now (words .exit) ≡ answerWords (answerFrom (now (table .entry)) cells (inGroup n d (d + climbs) group local shape)) ⌝ }
 {
-    let k = climbs.depth();
-    if k < depth - d {
+    let k = row.depth();
+    if k < climbs {
         let got = read(
             table,
             HEADER_CELLS + GROUPS * n + GROUP_WORDS * group,
@@ -116,11 +105,11 @@ fn in_group(
         );
         let p = Node(got.word);
         let more = got.cells;
-        after_parent(table, n, d, depth - d - k - 1, p, more, words);
+        after_parent(table, n, d, climbs - k - 1, p, more, words);
         return;
     }
     let got = read(table, HEADER_CELLS + GROUPS * n, GROUP_WORDS * group, cells);
-    let to = climbs.reached(depth - d);
+    let to = row.reached(climbs);
     let position = Position(got.word);
     let more = got.cells;
     after_position(table, n, to as u32, position, more, words);

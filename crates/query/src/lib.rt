@@ -94,7 +94,7 @@ pub fn entries(table: &[u32]) -> Reply
     ensures answer { λ r. ⌜ Says (stepOne (now (table .entry))) (r .number) (r .word) ⌝ }
     ensures sized { λ r. ⌜ (r .number ≡ 0 → Sized (now (table .entry)) (r .word)) ⌝ }
 {
-    let open = look::opened(table);
+    let open = look::opened(table, table.len());
     let n = open.n;
     if n == 0 {
         return Reply {

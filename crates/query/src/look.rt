@@ -1,7 +1,9 @@
 // Steps 1 and 2: the table's count, and the entry with its depth. Then the way on by its kind. Each end writes its own words.
+// A slice that a function hands on is passed to it in memory. The functions here that have several callers take the table's length or a word themselves, and hand a copy on: address and length
+// are then passed in registers.
 ghost use mathlib.Core.Path.{_≡_};
 ghost use mathlib.Core.List.{[], _∷_};
-ghost use Prim.Native.Nat.{_+_, _≤_, _<_};
+ghost use Prim.Native.Nat.{_+_, _<_};
 ghost use lib.ListN.{length};
 ghost use Rattle.base.specs.Limits.{Sized, tableWords};
 ghost use Rattle.answers.specs.Reading.{read};
@@ -35,7 +37,8 @@ const HEADER: usize = HEADER_CELLS as usize;
 pub fn level_words(table: &[u32], v: Node, d: u32, words: &mut [u32; ANSWER_WORDS])
     ensures { λ _. ⌜ now (words .exit) ≡ answerWords (answerTo (now (table .entry)) (level (length (now (table .entry))) (v .0) d)) ⌝ }
 {
-    let at = enter(table, v, words);
+    let rest = table;
+    let at = enter(rest, table.len(), v, words);
     if at.n == 0 {
         return;
     }
@@ -44,14 +47,15 @@ pub fn level_words(table: &[u32], v: Node, d: u32, words: &mut [u32; ANSWER_WORD
         put(number_at(at.depth, d), v.0, first_two(cell), words);
         return;
     }
-    above(table, at.n, cell, d, at.depth, words);
+    above(rest, at.depth - d, cell, d, words, at.n);
 }
 
 // The entry k climbs above v, in words of the caller's.
 pub fn climb_words(table: &[u32], v: Node, k: u32, words: &mut [u32; ANSWER_WORDS])
     ensures { λ _. ⌜ now (words .exit) ≡ answerWords (answerTo (now (table .entry)) (climbing (length (now (table .entry))) (v .0) k)) ⌝ }
 {
-    let at = enter(table, v, words);
+    let rest = table;
+    let at = enter(rest, table.len(), v, words);
     if at.n == 0 {
         return;
     }
@@ -64,14 +68,15 @@ pub fn climb_words(table: &[u32], v: Node, k: u32, words: &mut [u32; ANSWER_WORD
         end(ACCEPTED, v.0, first_two(cell), words);
         return;
     }
-    above(table, at.n, cell, at.depth - k, at.depth, words);
+    above(rest, k, cell, at.depth - k, words, at.n);
 }
 
 // The rating lookup, in words of the caller's: an entry that is not deeper than the level is rated as itself.
 pub fn rating_words(table: &[u32], v: Node, level: u32, words: &mut [u32; ANSWER_WORDS])
     ensures { λ _. ⌜ now (words .exit) ≡ answerWords (answerTo (now (table .entry)) (rating (length (now (table .entry))) (v .0) level)) ⌝ }
 {
-    let at = enter(table, v, words);
+    let rest = table;
+    let at = enter(rest, table.len(), v, words);
     if at.n == 0 {
         return;
     }
@@ -80,7 +85,7 @@ pub fn rating_words(table: &[u32], v: Node, level: u32, words: &mut [u32; ANSWER
         put(ACCEPTED, v.0, first_two(cell), words);
         return;
     }
-    above(table, at.n, cell, level, at.depth, words);
+    above(rest, at.depth - level, cell, level, words, at.n);
 }
 
 // What step 1 finds: the number of entries, 0 where the table is broken.
@@ -89,20 +94,21 @@ pub struct Count {
     pub cells: Cells,
 }
 
-pub(crate) fn opened(table: &[u32]) -> Count
+pub(crate) fn opened(table: &[u32], len: usize) -> Count
+    requires { ⌜ len ≡ length (now table) ⌝ }
     ensures { λ r. ⌜ OpenedBy (now (table .entry)) r ⌝ }
 {
-    let n = counted(table);
-    let cells = first(table.len());
+    let n = counted(table, len);
+    let cells = first(len);
     Count { n, cells }
 }
 
 // The number of entries by cell 0 and the table's length, 0 where the table is broken.
-fn counted(table: &[u32]) -> u32
+fn counted(table: &[u32], len: usize) -> u32
+    requires { ⌜ len ≡ length (now table) ⌝ }
     ensures { λ r. ⌜ r ≡ countIn (now (table .entry)) ⌝ }
 {
-    let words = table.len();
-    if words < HEADER {
+    if len < HEADER {
         return 0;
     }
     let cell = table[0];
@@ -113,18 +119,18 @@ fn counted(table: &[u32]) -> u32
         return 0;
     }
     let n = entries_of(cell);
-    if words < table_words(n) {
+    if len < table_words(n) {
         return 0;
     }
     n
 }
 
 // The cells that step 1 reads: cell 0, where there are as many words as the header has.
-fn first(words: usize) -> Cells
-    ensures { λ r. ⌜ r ≡ firstOf words ⌝ }
+fn first(len: usize) -> Cells
+    ensures { λ r. ⌜ r ≡ firstOf len ⌝ }
 {
     let cells = Cells::new();
-    if words < HEADER {
+    if len < HEADER {
         return cells;
     }
     cells.push(0)
@@ -136,10 +142,11 @@ pub struct Entered {
     pub depth: u32,
 }
 
-fn enter(table: &[u32], v: Node, words: &mut [u32; ANSWER_WORDS]) -> Entered
+fn enter(table: &[u32], len: usize, v: Node, words: &mut [u32; ANSWER_WORDS]) -> Entered
+    requires { ⌜ len ≡ length (now table) ⌝ }
     ensures { λ r. ⌜ EnteredBy (now (table .entry)) (v .0) r (now (words .exit)) ⌝ }
 {
-    let open = opened(table);
+    let open = opened(table, len);
     let n = open.n;
     let cells = open.cells;
     if n == 0 {
@@ -169,9 +176,8 @@ fn first_two(cell: u32) -> Cells
     one.push(cell)
 }
 
-// The number that v gets as its own class at depth d, which is not above it.
+// The number of v as its own class at depth d, where that is not above it.
 fn number_at(depth: u32, d: u32) -> u32
-    requires { ⌜ depth ≤ d ⌝ }
     ensures { λ r. ⌜ r ≡ numberAt depth d ⌝ }
 {
     if depth < d {
@@ -180,11 +186,10 @@ fn number_at(depth: u32, d: u32) -> u32
     ACCEPTED
 }
 
-// Past step 2, from the cell of DEPTH of an entry that is deeper than d: KIND is n cells on. The table is indexed here and a copy is handed on, so that the compiler passes its
-// address in a register, and not in memory as it does a slice that a function hands on.
-fn above(table: &[u32], n: u32, cell: u32, d: u32, depth: u32, words: &mut [u32; ANSWER_WORDS])
-    requires { ⌜ (Sized (now table) n) × (cell + n < tableWords n) × (d < depth) ⌝ }
-    ensures { λ _. ⌜ now (words .exit) ≡ answerWords (answerFrom (now (table .entry)) (listed (0 ∷ cell ∷ [])) (read (cell + n) (afterKind n d depth))) ⌝ }
+// Past step 2, from the cell of DEPTH of an entry to so many climbs above it, at depth d: KIND is n cells on. The parameters stand as those of the C functions do, so that few are moved.
+fn above(table: &[u32], climbs: u32, cell: u32, d: u32, words: &mut [u32; ANSWER_WORDS], n: u32)
+    requires { ⌜ (Sized (now table) n) × (cell + n < tableWords n) ⌝ }
+    ensures { λ _. ⌜ now (words .exit) ≡ answerWords (answerFrom (now (table .entry)) (listed (0 ∷ cell ∷ [])) (read (cell + n) (afterKind n d (d + climbs)))) ⌝ }
 {
     let rest = table;
     let next = cell + n;
@@ -192,7 +197,7 @@ fn above(table: &[u32], n: u32, cell: u32, d: u32, depth: u32, words: &mut [u32;
     let kind = table[at];
     let two = first_two(cell);
     let three = two.push(next);
-    after_kind(rest, n, d, depth, kind, three, words);
+    after_kind(rest, n, d, climbs, kind, three, words);
 }
 
 // By KIND: a group, or straight to step 4. Three cells were read.
@@ -200,13 +205,13 @@ fn after_kind(
     table: &[u32],
     n: u32,
     d: u32,
-    depth: u32,
+    climbs: u32,
     kind: u32,
     cells: Cells,
     words: &mut [u32; ANSWER_WORDS],
 )
-    requires { ⌜ (Sized (now table) n) × (d < depth) × (Held 3 cells) ⌝ }
-    ensures { λ _. ⌜ now (words .exit) ≡ answerWords (answerFrom (now (table .entry)) cells (afterKind n d depth kind)) ⌝ }
+    requires { ⌜ (Sized (now table) n) × (Held 3 cells) ⌝ }
+    ensures { λ _. ⌜ now (words .exit) ≡ answerWords (answerFrom (now (table .entry)) cells (afterKind n d (d + climbs) kind)) ⌝ }
 {
     if MICRO_MARK <= kind {
         let x = kind - MICRO_MARK;
@@ -214,7 +219,7 @@ fn after_kind(
             table,
             n,
             d,
-            depth,
+            climbs,
             x / LOCAL_SPAN,
             x % LOCAL_SPAN,
             cells,

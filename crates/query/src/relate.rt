@@ -63,7 +63,7 @@ pub(crate) fn relate(table: &[u32], u: Node, v: Node) -> Relation
     ensures known { λ r. ⌜ (r .number ≡ 0 → (Sized (now (table .entry)) (r .n)) × (u .0 < r .n) × (Held 4 (r .cells))) ⌝ }
     ensures goes { λ r. ⌜ ((above : ℕ → Reading) (apart : Reading) → relatedFrom (now (table .entry)) r above apart ≡ answerFrom (now (table .entry)) (listed []) (opened (length (now (table .entry))) (related (u .0) (v .0) above apart))) ⌝ }
 {
-    let count = opened(table);
+    let count = opened(table, table.len());
     let n = count.n;
     let cells = count.cells;
     if n == 0 {

@@ -48,21 +48,22 @@ count-there : (t : List ℕ) → 4 ≤ length t → countIn t ≡ countFrom (len
 unfolding countIn
 count-there t h = simp (le-ltb (length t) 4 h)
 
-module _ (t : List ℕ) where
-  pub under-words : length t < 4 → 0 ≡ countIn t
-  under-words h = sym (count-few t h)
+module _ (t : List ℕ) (len : ℕ) (e : len ≡ length t) where
+  pub under-words : len < 4 → 0 ≡ countIn t
+  under-words h = sym (count-few t (rw e at h))
 
-  pub under-mark : 4 ≤ length t → wordAt t 0 ≤ headerMark → 0 ≡ countIn t
-  under-mark h m = let z : entriesOf (wordAt t 0) ≡ 0 = omega arith in sym (count-there t h ∙ ap (countFrom (length t)) z ∙ count-none (length t))
+  pub under-mark : 4 ≤ len → wordAt t 0 ≤ headerMark → 0 ≡ countIn t
+  under-mark h m = let z : entriesOf (wordAt t 0) ≡ 0 = omega arith in sym (count-there t (rw e at h) ∙ ap (countFrom (length t)) z ∙ count-none (length t))
 
-  pub over-most : 4 ≤ length t → headerMark + mostEntries < wordAt t 0 → 0 ≡ countIn t
-  over-most h m = sym (count-there t h ∙ count-many (length t) (entriesOf (wordAt t 0)) (omega arith))
+  pub over-most : 4 ≤ len → headerMark + mostEntries < wordAt t 0 → 0 ≡ countIn t
+  over-most h m = sym (count-there t (rw e at h) ∙ count-many (length t) (entriesOf (wordAt t 0)) (omega arith))
 
-  pub under-room : 4 ≤ length t → wordAt t 0 ≤ headerMark + mostEntries → length t < tableWords (wordAt t 0 - headerMark) → 0 ≡ countIn t
-  under-room h m r = sym (count-there t h ∙ count-short (length t) (entriesOf (wordAt t 0)) (omega arith) r)
+  module _ (h : 4 ≤ len) (m : wordAt t 0 ≤ headerMark + mostEntries) (n : ℕ) (q : n ≡ entriesOf (wordAt t 0)) where
+    pub under-room : len < tableWords n → 0 ≡ countIn t
+    under-room r = sym (count-there t (rw e at h) ∙ count-short (length t) (entriesOf (wordAt t 0)) (omega arith) (rw (e, q) at r))
 
-  pub with-room : 4 ≤ length t → wordAt t 0 ≤ headerMark + mostEntries → tableWords (wordAt t 0 - headerMark) ≤ length t → wordAt t 0 - headerMark ≡ countIn t
-  with-room h m r = sym (count-there t h ∙ count-fits (length t) (entriesOf (wordAt t 0)) (omega arith) r)
+    pub with-room : tableWords n ≤ len → n ≡ countIn t
+    with-room r = q ∙ sym (count-there t (rw e at h) ∙ count-fits (length t) (entriesOf (wordAt t 0)) (omega arith) (rw (e, q) at r))
 
 -- a count that is not 0 has room
 count-room : (t : List ℕ) (n : ℕ) → (countFrom (length t) n ≡ 0 → ⊥) → Sized t (countFrom (length t) n)

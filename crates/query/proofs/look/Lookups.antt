@@ -1,7 +1,7 @@
 -- The lookups from the depth of v on. Assumes nothing.
-use mathlib.Core.Path.{_≡_, refl, ap}
+use mathlib.Core.Path.{_≡_, refl}
 use mathlib.Core.List.{List, []}
-use Prim.Native.Nat.{ℕ, _-_, _≤_, _<_, min}
+use Prim.Native.Nat.{ℕ, _+_, _-_, _≤_, _<_, min}
 use native.Mathlib.Decide.{decLt}
 use native.Mathlib.Nat.{min-eq-left, min-eq-right}
 use native.Mathlib.Omega.{arith}
@@ -54,9 +54,9 @@ module _ (t : List ℕ) (cs : Cells) (n v x d depth : ℕ) where
   unfolding ancestorAt
   own h e = lt-no _ _ _ _ _ _ _ h (eq-yes _ _ _ _ _ _ _ e (ends _ _ _ _ refl))
 
-  pub onward : x ≤ depth → d < depth → (cell : ℕ) → cell ≡ kindCell n v → answerFrom t cs (read cell (afterKind n d depth)) ≡ answerFrom t cs (asked v x d n depth)
+  pub onward : x ≤ depth → (climbs cell : ℕ) → 0 < climbs → d + climbs ≡ depth → cell ≡ kindCell n v → answerFrom t cs (read cell (afterKind n d (d + climbs))) ≡ answerFrom t cs (asked v x d n depth)
   unfolding ancestorAt
-  onward h b cell e = lt-no _ _ _ _ _ _ _ h (eq-no _ _ _ _ _ _ _ (λ z. absurd (omega arith)) (ap (λ c. answerFrom t cs (read c (afterKind n d depth))) e))
+  onward h climbs cell b s e = lt-no _ _ _ _ _ _ _ h (eq-no _ _ _ _ _ _ _ (λ z. absurd (omega arith)) (rw (s, e) refl))
 
 -- a depth that is not above v
 pub level-own : (t : List ℕ) (cs : Cells) (n v d depth : ℕ) → depth ≤ d → record { number = numberAt depth d; word = v; cells = cs } ≡ answerFrom t cs (atLevel v d n depth)
@@ -70,5 +70,5 @@ level-own t cs n v d depth h = go (decLt depth d)
 pub rated-own : (t : List ℕ) (cs : Cells) (n v d depth : ℕ) → depth ≤ d → record { number = 0; word = v; cells = cs } ≡ answerFrom t cs (atRating v d n depth)
 rated-own t cs n v d depth h = rw (min-eq-right h) (own t cs n v depth depth depth (omega arith) refl)
 
-pub rated-onward : (t : List ℕ) (cs : Cells) (n v d depth : ℕ) → d < depth → (cell : ℕ) → cell ≡ kindCell n v → answerFrom t cs (read cell (afterKind n d depth)) ≡ answerFrom t cs (atRating v d n depth)
-rated-onward t cs n v d depth h cell e = let low : d ≤ depth = omega arith in rw (min-eq-left low) (onward t cs n v d d depth low h cell e)
+pub rated-onward : (t : List ℕ) (cs : Cells) (n v d depth climbs cell : ℕ) → 0 < climbs → d + climbs ≡ depth → cell ≡ kindCell n v → answerFrom t cs (read cell (afterKind n d (d + climbs))) ≡ answerFrom t cs (atRating v d n depth)
+rated-onward t cs n v d depth climbs cell b s e = let low : d ≤ depth = omega arith in rw (min-eq-left low) (onward t cs n v d d depth low climbs cell b s e)

@@ -33,11 +33,10 @@ after-shape-spec =
       record {
         sized = start .pre .0;
         group-in = start .pre .1;
-        deeper = start .pre .2;
         packs = row .climbs-of .ensures;
         local-in = inside (start .args .shape) (start .args .local) _ (row .climbs-of .ensures) _ (cell .reached .ensures) (test .if2 .left);
       },
-      start .pre .3,
+      start .pre .2,
     ))
     (λ c.
     let test = c .before .before in

@@ -18,8 +18,10 @@ returns c =
     let deep = c .before .before .before .before .before in
     let start = deep .before .before in
     let k = deep .depth .ensures ∙ start .pre .0 .packs .depth (start .pre .0 .local-in) in
-    let left : start .args .d + (start .args .depth - start .args .d - deep .depth .result - 1) ≡ start .args .depth - deep .depth .result - 1 = omega arith in
-    c .after-parent .ensures ∙ ap answerWords (rw (← k, ← left) (search steps))
+    let args = start .args in
+    let left : args .d + (args .climbs - deep .depth .result - 1) ≡ args .d + args .climbs - deep .depth .result - 1 = omega arith in
+    let up : args .d + args .climbs - args .d ≡ args .climbs = omega arith in
+    c .after-parent .ensures ∙ ap answerWords (rw (← k, ← left, up) (search steps))
 
 returns-2 : tie.Need-returns-2
 unfolding inGroup
@@ -29,7 +31,8 @@ returns-2 c =
     let start = deep .before .before in
     let k = deep .depth .ensures ∙ start .pre .0 .packs .depth (start .pre .0 .local-in) in
     let to = cell .reached .ensures ∙ start .pre .0 .packs .cells _ in
-    c .after-position .ensures ∙ ap answerWords (rw (← k, ← to) (search steps))
+    let up : start .args .d + start .args .climbs - start .args .d ≡ start .args .climbs = omega arith in
+    c .after-position .ensures ∙ ap answerWords (rw (← k, up, ← to) (search steps))
 
 pub in-group-spec : {M : Type 1} → statement M
 in-group-spec =
@@ -40,9 +43,7 @@ in-group-spec =
     (λ c. search needs)
     (λ c. search needs)
     (λ c. search needs)
-    (λ c. search needs)
     (λ c κs. search needs)
-    (λ c. search needs)
     (λ c. search needs)
     (λ c. search needs)
     (λ c κs. (search needs, got-held _ _ _ _ 4 (c .before .before .read .ensures) (c .before .before .before .before .before .before .pre .1) (lit< tt)))
@@ -51,7 +52,6 @@ in-group-spec =
     (λ c. search needs)
     (λ c. search needs)
     (λ c κs. search needs)
-    (λ c. search needs)
     (λ c κs. search needs)
     (λ c. search needs)
     (λ c κs. search needs)

@@ -18,7 +18,7 @@ after-kind-spec =
     (λ c κs. search needs)
     (λ c. c .from-group .ensures ∙ ap answerWords (search steps))
     (λ c κs. search needs)
-    (λ c κs. (c .before .before .before .pre .2, lit≤ tt, jump-cells _ _ _ _ _ (c .from-jump .ensures)))
+    (λ c κs. (c .before .before .before .pre .1, lit≤ tt, jump-cells _ _ _ _ _ (c .from-jump .ensures)))
     (λ c κs. search needs)
     (λ c.
     let all = c .before .before in

@@ -34,7 +34,7 @@ returns-4 c =
     let none = c .before .before .before in
     let deep = none .before in
     let test = deep .before .before .before in
-    c .above .ensures ∙ ap answerWords (onward _ _ _ _ _ _ _ (deep .if2 .left) (omega (arith, none .if3 .left)) _ (omega arith) ∙ test .before .before .enter .ensures .goes (test .if1 .left) (atClimb _ _) ∙ whole-climb _ _ _)
+    c .above .ensures ∙ ap answerWords (onward _ _ _ _ _ _ _ (deep .if2 .left) _ _ (omega (arith, none .if3 .left)) (omega arith) (omega arith) ∙ test .before .before .enter .ensures .goes (test .if1 .left) (atClimb _ _) ∙ whole-climb _ _ _)
 
 pub climb-words-spec : {M : Type 1} → statement M
 climb-words-spec =
@@ -53,5 +53,5 @@ climb-words-spec =
     let test = c .before .before .before .before .before .before in
     let enter = test .before .before .enter in
     let room = enter .ensures .room (test .if1 .left) in
-    (room, omega (arith, enter .ensures .known (test .if1 .left)), omega (arith, c .before .before .if3 .left)))
+    (room, omega (arith, enter .ensures .known (test .if1 .left))))
     returns-4)

@@ -10,4 +10,4 @@ opened-spec =
     (tie.spec
     (λ c κs. search needs)
     (λ c κs. search needs)
-    (λ c. rw (c .before .counted .ensures, c .first .ensures) (opened-by _)))
+    (λ c. rw (c .before .counted .ensures, c .first .ensures, c .before .before .before .pre) (opened-by _)))

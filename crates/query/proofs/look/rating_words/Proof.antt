@@ -22,9 +22,9 @@ returns-2 c =
 
 returns-3 : tie.Need-returns-3
 returns-3 c =
-    let deep = c .before .before in
+    let deep = c .before .before .before in
     let test = deep .before .before .before in
-    c .above .ensures ∙ ap answerWords (rated-onward _ _ _ _ _ _ (deep .if2 .left) _ (omega arith) ∙ test .before .before .enter .ensures .goes (test .if1 .left) (atRating _ _) ∙ whole-rating _ _ _)
+    c .above .ensures ∙ ap answerWords (rated-onward _ _ _ _ _ _ _ _ (omega arith) (omega arith) (omega arith) ∙ test .before .before .enter .ensures .goes (test .if1 .left) (atRating _ _) ∙ whole-rating _ _ _)
 
 pub rating-words-spec : {M : Type 1} → statement M
 rating-words-spec =
@@ -36,9 +36,10 @@ rating-words-spec =
     (λ c κs. search needs)
     (λ c κs. search needs)
     returns-2
+    (λ c. search needs)
     (λ c κs.
-    let test = c .before .before .before .before in
+    let test = c .before .before .before .before .before in
     let enter = test .before .before .enter in
     let room = enter .ensures .room (test .if1 .left) in
-    (room, omega (arith, enter .ensures .known (test .if1 .left)), c .before .if2 .left))
+    (room, omega (arith, enter .ensures .known (test .if1 .left))))
     returns-3)
