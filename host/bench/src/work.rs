@@ -96,13 +96,13 @@ pub fn times<A: Copy>(asked: &[A], ours: impl Fn(A) -> u32, theirs: impl Fn(A) -
     [median(a), median(b)]
 }
 
-/// What is looked at of an answer: its number and its last cell.
+/// What is looked at of an answer, alike of both: its number and its second cell.
 pub fn seen(r: &tantsheko::Answer) -> u32 {
-    r.number() ^ r.places()[r.cells().len() - 1]
+    r.number() ^ r.places()[1]
 }
 
 pub fn seen_by_hand(r: &reference::Answer) -> u32 {
-    r.number ^ r.cells[r.count as usize - 1]
+    r.number ^ r.cells[1]
 }
 
 /// Both ways of a question over the same arguments.

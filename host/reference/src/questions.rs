@@ -32,6 +32,12 @@ pub(crate) fn end((number, word): (u32, u32), list: &[u32]) -> Answer {
     }
 }
 
+/// 9, with these cells.
+#[cold]
+pub(crate) fn broken(list: &[u32]) -> Answer {
+    end(BROKEN, list)
+}
+
 /// A word that is to be an entry, as a result.
 #[inline(always)]
 pub(crate) fn class(w: u32, s: Sections) -> (u32, u32) {
@@ -52,9 +58,12 @@ pub(crate) struct Opened<'a> {
 impl<'a> Opened<'a> {
     #[inline(always)]
     pub(crate) fn new(table: &'a [u32]) -> Option<Opened<'a>> {
-        let n = table.first()?.wrapping_sub(HEADER) as usize;
+        if table.len() < 4 {
+            return None;
+        }
+        let n = table[0].wrapping_sub(HEADER) as usize;
         let s = Sections { n };
-        if table.len() < 4 || n == 0 || n > MOST || table.len() < s.words() {
+        if n == 0 || n > MOST || table.len() < s.words() {
             return None;
         }
         Some(Opened { table, s })
@@ -97,7 +106,7 @@ pub(crate) fn look(table: &[u32], v: u32, wanted: impl FnOnce(u32) -> Option<u32
     let c1 = t.s.depth() as u32 + v;
     let depth = t.word(c1);
     if depth >= n {
-        return end(BROKEN, &[0, c1]);
+        return broken(&[0, c1]);
     }
     let Some(d) = wanted(depth) else {
         return end((8, v), &[0, c1]);
@@ -112,24 +121,24 @@ pub(crate) fn look(table: &[u32], v: u32, wanted: impl FnOnce(u32) -> Option<u32
     }
     let group = (kind - MICRO) / 8;
     if group >= n {
-        return end(BROKEN, &[0, c1, c2]);
+        return broken(&[0, c1, c2]);
     }
     let first = t.s.groups() as u32 + 3 * group;
     let c3 = first + 1;
     let shape = t.word(c3) as usize;
     if shape >= COUNT {
-        return end(BROKEN, &[0, c1, c2, c3]);
+        return broken(&[0, c1, c2, c3]);
     }
     let row = u64::from_le_bytes(ROWS[shape][(kind % 8) as usize]);
     if row as u8 == NONE {
-        return end(BROKEN, &[0, c1, c2, c3]);
+        return broken(&[0, c1, c2, c3]);
     }
     let k = (row >> (8 * LIMIT)) as u32;
     let climbs = depth - d;
     if climbs <= k {
         let place = u64::from(t.word(first)) + u64::from((row >> (8 * climbs)) as u8);
         if place >= u64::from(n) {
-            return end(BROKEN, &[0, c1, c2, c3, first]);
+            return broken(&[0, c1, c2, c3, first]);
         }
         let c5 = t.s.order() as u32 + place as u32;
         return end(class(t.word(c5), t.s), &[0, c1, c2, c3, first, c5]);
@@ -137,7 +146,7 @@ pub(crate) fn look(table: &[u32], v: u32, wanted: impl FnOnce(u32) -> Option<u32
     let c4 = first + 2;
     let p = t.word(c4);
     if p >= n {
-        return end(BROKEN, &[0, c1, c2, c3, c4]);
+        return broken(&[0, c1, c2, c3, c4]);
     }
     if climbs == k + 1 {
         return end((0, p), &[0, c1, c2, c3, c4]);
@@ -153,24 +162,24 @@ fn jump<const K: usize>(t: Opened, d: u32, kind: u32, before: [u32; K]) -> Answe
     let mut list = [0; 10];
     list[..K].copy_from_slice(&before);
     let Some((cell, deep)) = t.record(kind) else {
-        return end(BROKEN, &list[..K]);
+        return broken(&list[..K]);
     };
     list[K] = cell;
     if deep >= n || deep <= d {
-        return end(BROKEN, &list[..K + 1]);
+        return broken(&list[..K + 1]);
     }
     let gap = deep - d;
     let e = gap.ilog2();
     list[K + 1] = cell + 1 + e;
     let w = t.word(cell + 1 + e);
     if w >= n {
-        return end(BROKEN, &list[..K + 2]);
+        return broken(&list[..K + 2]);
     }
     list[K + 2] = t.s.ladpos() as u32 + w;
     let place = t.word(list[K + 2]);
     let missing = gap - (1 << e);
     if place < missing || place - missing >= 2 * n {
-        return end(BROKEN, &list[..K + 3]);
+        return broken(&list[..K + 3]);
     }
     list[K + 3] = t.s.ladders() as u32 + (place - missing);
     end(class(t.word(list[K + 3]), t.s), &list[..K + 4])

@@ -41,15 +41,21 @@ fn say<const K: usize>(number: u32, word: u32, list: [u32; K]) -> Answer {
     answer
 }
 
+/// 9: the table is broken.
+#[cold]
+fn broken<const K: usize>(list: [u32; K]) -> Answer {
+    say(9, 0, list)
+}
+
 /// The class of v at depth d.
 #[inline(never)]
 pub fn level(table: &[u32], v: u32, d: u32) -> Answer {
     if table.len() < 4 {
-        return say(9, 0, []);
+        return broken([]);
     }
     let n = table[0].wrapping_sub(HEADER);
     if n == 0 || n as usize > MOST || table.len() < 4 + (11 * n + 21 * (n / 8)) as usize {
-        return say(9, 0, [0]);
+        return broken([0]);
     }
     if v >= n {
         return say(7, v, [0]);
@@ -58,7 +64,7 @@ pub fn level(table: &[u32], v: u32, d: u32) -> Answer {
     let list = [0, 4 + v];
     let depth = asked.at(4 + v);
     if depth >= n {
-        say(9, 0, list)
+        broken(list)
     } else if depth < d {
         say(8, v, list)
     } else if depth == d {
@@ -76,7 +82,7 @@ fn by_kind(a: Asked, climbs: u32, list: [u32; 3]) -> Answer {
     }
     let group = (kind % MICRO) / 8;
     if group >= a.n {
-        return say(9, 0, list);
+        return broken(list);
     }
     let first = 4 + 8 * a.n + 3 * group;
     by_shape(a, climbs, first, (kind % 8) as usize, push(list, first + 1))
@@ -85,19 +91,22 @@ fn by_kind(a: Asked, climbs: u32, list: [u32; 3]) -> Answer {
 #[inline(always)]
 fn by_shape(a: Asked, climbs: u32, first: u32, local: usize, list: [u32; 4]) -> Answer {
     let shape = a.at(list[3]) as usize;
-    if shape >= COUNT || ROWS[shape][local][0] == NONE {
-        return say(9, 0, list);
+    if shape >= COUNT {
+        return broken(list);
     }
-    let row = &ROWS[shape][local];
-    let k = row[LIMIT] as u32;
+    let row = u64::from_le_bytes(ROWS[shape][local]);
+    if row as u8 == NONE {
+        return broken(list);
+    }
+    let k = (row >> (8 * LIMIT)) as u32;
     if climbs > k {
         return over_group(a, climbs == k + 1, push(list, first + 2));
     }
     let list: [u32; 5] = push(list, first);
     let position = a.at(first);
-    let place = position.wrapping_add(row[climbs as usize] as u32);
+    let place = position.wrapping_add((row >> (8 * climbs)) as u32 & 255);
     if position >= a.n || place >= a.n {
-        return say(9, 0, list);
+        return broken(list);
     }
     by_class(a, push::<5, 6>(list, 4 + 3 * a.n + place))
 }
@@ -106,7 +115,7 @@ fn by_shape(a: Asked, climbs: u32, first: u32, local: usize, list: [u32; 4]) -> 
 fn over_group(a: Asked, here: bool, list: [u32; 5]) -> Answer {
     let p = a.at(list[4]);
     if p >= a.n {
-        return say(9, 0, list);
+        return broken(list);
     }
     if here {
         return say(0, p, list);
@@ -123,26 +132,26 @@ fn by_record<const K: usize, const L: usize, const M: usize, const N: usize, con
     list: [u32; K],
 ) -> Answer {
     if kind >= a.n / 8 {
-        return say(9, 0, list);
+        return broken(list);
     }
     let record = 4 + 11 * a.n + 21 * kind;
     let list: [u32; L] = push(list, record);
     let deep = a.at(record);
     if deep >= a.n || deep <= a.d {
-        return say(9, 0, list);
+        return broken(list);
     }
-    let e = 31 - (deep - a.d).leading_zeros();
+    let e = (deep - a.d).ilog2();
     let list: [u32; M] = push(list, record + 1 + e);
     let w = a.at(record + 1 + e);
     if w >= a.n {
-        return say(9, 0, list);
+        return broken(list);
     }
     let list: [u32; N] = push(list, 4 + 2 * a.n + w);
-    let index = a.at(4 + 2 * a.n + w).checked_sub(deep - a.d - (1 << e));
-    match index.filter(|&i| i < 2 * a.n) {
-        None => say(9, 0, list),
-        Some(i) => by_class(a, push::<N, O>(list, 4 + 6 * a.n + i)),
+    let (index, missing) = (a.at(4 + 2 * a.n + w), deep - a.d - (1 << e));
+    if index < missing || index - missing >= 2 * a.n {
+        return broken(list);
     }
+    by_class(a, push::<N, O>(list, 4 + 6 * a.n + (index - missing)))
 }
 
 /// The last word read is the answer.
@@ -152,6 +161,6 @@ fn by_class<const K: usize>(a: Asked, list: [u32; K]) -> Answer {
     if class < a.n {
         say(0, class, list)
     } else {
-        say(9, 0, list)
+        broken(list)
     }
 }
