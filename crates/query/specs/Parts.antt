@@ -18,7 +18,7 @@ use Rattle.answers.specs.declared.Answer.{Answer}
 use Rattle.query.specs.declared.reading.Got.{Got}
 use Rattle.query.specs.declared.relate.Relation.{Relation}
 use Rattle.query.specs.declared.look.Count.{Count}
-use Rattle.query.specs.declared.look.Entered.{Entered}
+use Rattle.query.specs.declared.look.Found.{Found}
 
 -- k cells were read: a list of them, unused places 0
 pub record Held (k : ℕ) (cs : Cells) : Type 0 where
@@ -55,6 +55,7 @@ pub record InGroup (t : List ℕ) (n group shape local row : ℕ) : Type 0 where
 unfoldable pub countFrom : ℕ → ℕ → ℕ
 countFrom len n = cond (ltb mostEntries n) 0 (cond (ltb len (tableWords n)) 0 n)
 
+-- the count of a table by them, 0 too where it has fewer words than its header
 unfoldable pub countIn : List ℕ → ℕ
 countIn t = cond (ltb (length t) 4) 0 (countFrom (length t) (entriesOf (wordAt t 0)))
 
@@ -72,18 +73,18 @@ pub record OpenedBy (t : List ℕ) (o : Count) : Type 0 where
   pub one : (o .n ≡ 0 → ⊥) → o .cells ≡ listed (0 ∷ [])
   pub goes : (next : ℕ → Reading) → openFrom t o next ≡ answerFrom t (listed []) (opened (length t) next)
 
--- steps 1 and 2 up to the depth of v. Then `next`, with the number of entries and that depth
-unfoldable pub entering : ℕ → ℕ → (ℕ → ℕ → Reading) → Reading
-entering len v next = opened len (λ n. ifLe n v (done (unknown v)) (read (depthCell n v) (λ depth. ifLe n depth broken (next n depth))))
+-- steps 1 and 2 up to the depth of v, as the programs of the lookups start. Then `next`, with the number of entries and that depth
+unfoldable pub finding : ℕ → ℕ → (ℕ → ℕ → Reading) → Reading
+finding len v next = opened len (λ n. ifLe n v (done (unknown v)) (read (depthCell n v) (λ depth. ifLe n depth broken (next n depth))))
 
 -- they were taken on the table t: any program goes on from there or, by a count of 0, has ended in those words
-pub record EnteredBy (t : List ℕ) (v : ℕ) (e : Entered) (words : List ℕ) : Type 0 where
+pub record FoundBy (t : List ℕ) (v : ℕ) (e : Found) (words : List ℕ) : Type 0 where
   pub room : (e .n ≡ 0 → ⊥) → Sized t (e .n)
   pub known : (e .n ≡ 0 → ⊥) → v < e .n
-  pub goes : (e .n ≡ 0 → ⊥) → (next : ℕ → ℕ → Reading) → answerFrom t (listed (0 ∷ depthCell (e .n) v ∷ [])) (next (e .n) (e .depth)) ≡ answerFrom t (listed []) (entering (length t) v next)
-  pub ended : e .n ≡ 0 → (next : ℕ → ℕ → Reading) → words ≡ answerWords (answerFrom t (listed []) (entering (length t) v next))
+  pub goes : (e .n ≡ 0 → ⊥) → (next : ℕ → ℕ → Reading) → answerFrom t (listed (0 ∷ depthCell (e .n) v ∷ [])) (next (e .n) (e .depth)) ≡ answerFrom t (listed []) (finding (length t) v next)
+  pub ended : e .n ≡ 0 → (next : ℕ → ℕ → Reading) → words ≡ answerWords (answerFrom t (listed []) (finding (length t) v next))
 
--- the number of v as its own class at depth d, which is not above it
+-- the number of v, of that depth, where it is not deeper than d: 0 at depth d, 8 above it
 abbrev pub numberAt : ℕ → ℕ → ℕ
 numberAt depth d = cond (ltb depth d) 8 0
 

@@ -19,7 +19,7 @@ pub(crate) fn end(number: u32, word: u32, cells: Cells, words: &mut [u32; ANSWER
     put(number, word, cells, words);
 }
 
-// One end for more than one number.
+// For an end of step 2, which no end past it is joined with.
 pub(crate) fn put(number: u32, word: u32, cells: Cells, words: &mut [u32; ANSWER_WORDS])
     ensures { λ _. ⌜ now (words .exit) ≡ answerWords (record { number = number; word = word; cells = cells }) ⌝ }
 {

@@ -1,6 +1,6 @@
 // Steps 1 and 2: the table's count, and the entry with its depth. Then the way on by its kind. Each end writes its own words.
-// A slice that a function hands on is passed to it in memory. The functions here that have several callers take the table's length or a word themselves, and hand a copy on: address and length
-// are then passed in registers.
+// A slice that a function hands on is passed to it in memory. The three lookups, and `above`, take the table's length or a word themselves and hand a copy on: address and length are then
+// passed in registers.
 ghost use mathlib.Core.Path.{_≡_};
 ghost use mathlib.Core.List.{[], _∷_};
 ghost use Prim.Native.Nat.{_+_, _<_};
@@ -9,7 +9,7 @@ ghost use Rattle.base.specs.Limits.{Sized, tableWords};
 ghost use Rattle.answers.specs.Reading.{read};
 ghost use Rattle.answers.specs.Answers.{listed, answerFrom, answerTo, answerWords};
 ghost use Rattle.answers.specs.Steps.{level, climbing, rating, afterKind};
-ghost use Rattle.query.specs.Parts.{Held, countIn, firstOf, OpenedBy, EnteredBy, numberAt};
+ghost use Rattle.query.specs.Parts.{Held, countIn, firstOf, OpenedBy, FoundBy, numberAt};
 use crate::ends::end;
 use crate::ends::put;
 use crate::group::from_group;
@@ -38,7 +38,7 @@ pub fn level_words(table: &[u32], v: Node, d: u32, words: &mut [u32; ANSWER_WORD
     ensures { λ _. ⌜ now (words .exit) ≡ answerWords (answerTo (now (table .entry)) (level (length (now (table .entry))) (v .0) d)) ⌝ }
 {
     let rest = table;
-    let at = enter(rest, table.len(), v, words);
+    let at = find(rest, table.len(), v, words);
     if at.n == 0 {
         return;
     }
@@ -55,7 +55,7 @@ pub fn climb_words(table: &[u32], v: Node, k: u32, words: &mut [u32; ANSWER_WORD
     ensures { λ _. ⌜ now (words .exit) ≡ answerWords (answerTo (now (table .entry)) (climbing (length (now (table .entry))) (v .0) k)) ⌝ }
 {
     let rest = table;
-    let at = enter(rest, table.len(), v, words);
+    let at = find(rest, table.len(), v, words);
     if at.n == 0 {
         return;
     }
@@ -76,7 +76,7 @@ pub fn rating_words(table: &[u32], v: Node, level: u32, words: &mut [u32; ANSWER
     ensures { λ _. ⌜ now (words .exit) ≡ answerWords (answerTo (now (table .entry)) (rating (length (now (table .entry))) (v .0) level)) ⌝ }
 {
     let rest = table;
-    let at = enter(rest, table.len(), v, words);
+    let at = find(rest, table.len(), v, words);
     if at.n == 0 {
         return;
     }
@@ -137,34 +137,34 @@ fn first(len: usize) -> Cells
 }
 
 // What step 2 finds: the number of entries and the depth of v. Where the lookup has ended, its words are written, and n is 0.
-pub struct Entered {
+pub struct Found {
     pub n: u32,
     pub depth: u32,
 }
 
-fn enter(table: &[u32], len: usize, v: Node, words: &mut [u32; ANSWER_WORDS]) -> Entered
+fn find(table: &[u32], len: usize, v: Node, words: &mut [u32; ANSWER_WORDS]) -> Found
     requires { ⌜ len ≡ length (now table) ⌝ }
-    ensures { λ r. ⌜ EnteredBy (now (table .entry)) (v .0) r (now (words .exit)) ⌝ }
+    ensures { λ r. ⌜ FoundBy (now (table .entry)) (v .0) r (now (words .exit)) ⌝ }
 {
     let open = opened(table, len);
     let n = open.n;
     let cells = open.cells;
     if n == 0 {
         end(BROKEN, 0, cells, words);
-        return Entered { n: 0, depth: 0 };
+        return Found { n: 0, depth: 0 };
     }
     if n <= v.0 {
         end(UNKNOWN, v.0, cells, words);
-        return Entered { n: 0, depth: 0 };
+        return Found { n: 0, depth: 0 };
     }
     let got = read(table, HEADER_CELLS, v.0, cells);
     let depth = got.word;
     let more = got.cells;
     if n <= depth {
         end(BROKEN, 0, more, words);
-        return Entered { n: 0, depth: 0 };
+        return Found { n: 0, depth: 0 };
     }
-    Entered { n, depth }
+    Found { n, depth }
 }
 
 // The cells read before KIND: cell 0, and that of DEPTH.
@@ -176,7 +176,7 @@ fn first_two(cell: u32) -> Cells
     one.push(cell)
 }
 
-// The number of v as its own class at depth d, where that is not above it.
+// The number of v where it is not deeper than d: 0 at depth d, 8 above it.
 fn number_at(depth: u32, d: u32) -> u32
     ensures { λ r. ⌜ r ≡ numberAt depth d ⌝ }
 {
@@ -186,7 +186,8 @@ fn number_at(depth: u32, d: u32) -> u32
     ACCEPTED
 }
 
-// Past step 2, from the cell of DEPTH of an entry to so many climbs above it, at depth d: KIND is n cells on. The parameters stand as those of the C functions do, so that few are moved.
+// Past step 2, from the cell of DEPTH of an entry to so many climbs above it, at depth d: KIND is n cells on. The parameters stand in an order
+// in which few registers are moved between the C functions and this one.
 fn above(table: &[u32], climbs: u32, cell: u32, d: u32, words: &mut [u32; ANSWER_WORDS], n: u32)
     requires { ⌜ (Sized (now table) n) × (cell + n < tableWords n) ⌝ }
     ensures { λ _. ⌜ now (words .exit) ≡ answerWords (answerFrom (now (table .entry)) (listed (0 ∷ cell ∷ [])) (read (cell + n) (afterKind n d (d + climbs)))) ⌝ }

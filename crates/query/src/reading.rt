@@ -4,7 +4,6 @@ ghost use mathlib.Core.List.{List};
 ghost use Prim.Native.Nat.{ℕ, _+_, _^_, _<_};
 ghost use lib.ListN.{length};
 ghost use Rattle.base.specs.Numbers.{broken};
-ghost use Rattle.answers.specs.Reading.{done};
 ghost use Rattle.answers.specs.Answers.{answerFrom};
 ghost use Rattle.answers.specs.Steps.{afterClass};
 ghost use Rattle.query.specs.Parts.{gotAt};

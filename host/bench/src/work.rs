@@ -96,13 +96,13 @@ pub fn times<A: Copy>(asked: &[A], ours: impl Fn(A) -> u32, theirs: impl Fn(A) -
     [median(a), median(b)]
 }
 
-/// What is looked at of an answer, alike of both: its number and its second cell.
+/// What is looked at of an answer, alike of both: its number and two places of its cells, one early and one late.
 pub fn seen(r: &tantsheko::Answer) -> u32 {
-    r.number() ^ r.places()[1]
+    r.number() ^ r.places()[1] ^ r.places()[9]
 }
 
 pub fn seen_by_hand(r: &reference::Answer) -> u32 {
-    r.number ^ r.cells[1]
+    r.number ^ r.cells[1] ^ r.cells[9]
 }
 
 /// Both ways of a question over the same arguments.

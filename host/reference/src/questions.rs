@@ -34,7 +34,7 @@ pub(crate) fn end((number, word): (u32, u32), list: &[u32]) -> Answer {
 
 /// 9, with these cells.
 #[cold]
-pub(crate) fn broken(list: &[u32]) -> Answer {
+fn broken(list: &[u32]) -> Answer {
     end(BROKEN, list)
 }
 

@@ -1,5 +1,5 @@
 -- The cells of step 4 are told from unused places: none of them is cell 0. Assumes nothing.
-use mathlib.Core.Path.{_≡_, refl, sym, ap, _∙_}
+use mathlib.Core.Path.{_≡_, refl, ap, _∙_}
 use mathlib.Core.Bool.{Bool, true, false, cond}
 use mathlib.Core.List.{List, [], _∷_}
 use mathlib.Core.Option.{Option, none, some, Option·elim}
@@ -20,39 +20,37 @@ use Rattle.query.specs.Parts.{JumpCells, oneOf}
 use Rattle.query.proofs.joining.Joins.{jump-answer, jump-four, jump-held}
 
 -- a program that does not read cell 0
-unfoldable PastFirst : Reading → Type 0
-PastFirst (done o) = Unit
-PastFirst (read cell k) = (0 < cell) × ((w : ℕ) → PastFirst (k w))
+unfoldable WithoutFirst : Reading → Type 0
+WithoutFirst (done o) = Unit
+WithoutFirst (read cell k) = (0 < cell) × ((w : ℕ) → WithoutFirst (k w))
 
-past-done : (o : Outcome) → PastFirst (done o)
-unfolding PastFirst
+past-done : (o : Outcome) → WithoutFirst (done o)
+unfolding WithoutFirst
 past-done o = tt
 
-past-read : (cell : ℕ) (k : ℕ → Reading) → 0 < cell → ((w : ℕ) → PastFirst (k w)) → PastFirst (read cell k)
-unfolding PastFirst
+past-read : (cell : ℕ) (k : ℕ → Reading) → 0 < cell → ((w : ℕ) → WithoutFirst (k w)) → WithoutFirst (read cell k)
+unfolding WithoutFirst
 past-read cell k h i = (h, i)
 
-module _ (x y : ℕ) (p q : Reading) (h : PastFirst p) (i : PastFirst q) where
-  past-cond : (b : Bool) → PastFirst (cond b p q)
+module _ (x y : ℕ) (p q : Reading) (h : WithoutFirst p) (i : WithoutFirst q) where
+  past-cond : (b : Bool) → WithoutFirst (cond b p q)
   past-cond true = h
   past-cond false = i
 
-  past-le : PastFirst (ifLe x y p q)
+  past-le : WithoutFirst (ifLe x y p q)
   unfolding ifLe
   past-le = past-cond (leb x y)
 
-  past-lt : PastFirst (ifLt x y p q)
+  past-lt : WithoutFirst (ifLt x y p q)
   unfolding ifLt
   past-lt = past-cond (ltb x y)
 
-past-none : (o : Option ℕ) (p : Reading) (q : ℕ → Reading) → PastFirst p → ((e : ℕ) → PastFirst (q e)) → PastFirst (ifNone o p q)
+past-none : (o : Option ℕ) (p : Reading) (q : ℕ → Reading) → WithoutFirst p → ((e : ℕ) → WithoutFirst (q e)) → WithoutFirst (ifNone o p q)
 unfolding ifNone Option·elim
 past-none none p q h i = h
 past-none (some e) p q h i = i e
 
-ruleset past = (past-done, past-read, past-le, past-lt, past-none, arith)
-
-jump-past : (n d jump : ℕ) → PastFirst (fromJump n d jump)
+jump-past : (n d jump : ℕ) → WithoutFirst (fromJump n d jump)
 unfolding fromJump afterJumpDepth readAncestor afterAncestor afterLadpos afterClass
 jump-past n d jump =
     past-le _ _ _ _ (past-done _)
@@ -67,8 +65,8 @@ jump-past n d jump =
     (past-le _ _ _ _ (past-done _)
     (past-read _ _ (omega arith) (λ class. past-le _ _ _ _ (past-done _) (past-done _))))))))))))
 
-trace-past : (t : List ℕ) (p : Reading) → PastFirst p → (i : ℕ) → i < length (trace t p) → 0 < getD (trace t p) i 0
-unfolding trace PastFirst
+trace-past : (t : List ℕ) (p : Reading) → WithoutFirst p → (i : ℕ) → i < length (trace t p) → 0 < getD (trace t p) i 0
+unfolding trace WithoutFirst
 trace-past t (done o) h i b = absurd (omega arith)
 trace-past t (read cell k) h zero b = h .0
 trace-past t (read cell k) h (suc i) b = trace-past t (k (wordAt t cell)) (h .1 (wordAt t cell)) i (omega arith)

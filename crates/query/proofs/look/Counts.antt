@@ -1,7 +1,7 @@
--- Step 1: the tests of the count. Assumes nothing.
+-- Step 1: the tests of the count, and how a lookup goes on from there. Assumes nothing.
 use mathlib.Core.Path.{_≡_, refl, sym, ap, _∙_}
 use mathlib.Core.List.{List, [], _∷_}
-use Prim.Native.Nat.{ℕ, _+_, _-_, _≤_, _<_}
+use Prim.Native.Nat.{ℕ, _+_, _≤_, _<_}
 use native.Mathlib.Omega.{arith}
 use native.Mathlib.Decide.{ℕ-discrete, decLt}
 use lib.ListN.{length}
@@ -15,7 +15,7 @@ use Rattle.answers.specs.Steps.{broken, afterCount, opened}
 use Rattle.answers.specs.declared.Answer.{Answer}
 use Rattle.answers.specs.declared.Cells.{Cells}
 use Rattle.answers.proofs.ProgramAnswers.{push-all-listed}
-use Rattle.query.specs.Parts.{Held, countFrom, countIn, firstOf, openFrom, entering, OpenedBy}
+use Rattle.query.specs.Parts.{Held, countFrom, countIn, firstOf, openFrom, finding, OpenedBy}
 use Rattle.query.specs.declared.look.Count.{Count}
 use Rattle.query.proofs.Programs.{ends, eq-yes, eq-no, lt-yes, lt-no}
 
@@ -141,11 +141,11 @@ opened-by t = go (decLt (length t) 4)
         }
 
 -- a program that goes on with v, from step 1
-pub enters : (t : List ℕ) (v : ℕ) (o : Count) → OpenedBy t o → (o .n ≡ 0 → ⊥) → (next : ℕ → ℕ → Reading) (r : Answer)
+pub found-from : (t : List ℕ) (v : ℕ) (o : Count) → OpenedBy t o → (o .n ≡ 0 → ⊥) → (next : ℕ → ℕ → Reading) (r : Answer)
     → r ≡ answerFrom t (o .cells) (ifLe (o .n) v (done (unknown v)) (read (depthCell (o .n) v) (λ depth. ifLe (o .n) depth broken (next (o .n) depth))))
-    → r ≡ answerFrom t (listed []) (entering (length t) v next)
-unfolding entering
-enters t v o by left next r e = e ∙ sym (open-next t o _ left) ∙ by .goes _
+    → r ≡ answerFrom t (listed []) (finding (length t) v next)
+unfolding finding
+found-from t v o by left next r e = e ∙ sym (open-next t o _ left) ∙ by .goes _
 
 -- cell 0, and one more
 pub two-cells : (cs : Cells) (cell : ℕ) → cs ≡ listed (0 ∷ []) → pushed cs cell ≡ listed (0 ∷ cell ∷ [])

@@ -13,11 +13,10 @@ use Rattle.base.specs.Numbers.{tooDeep}
 use Rattle.answers.specs.Reading.{Reading, done, read, ifLt}
 use Rattle.answers.specs.Answers.{listed, answerFrom, answerTo}
 use Rattle.answers.specs.Steps.{level, climbing, rating, fromEntry, fromRated, afterDepth, ancestorAt, afterKind}
-use Rattle.answers.specs.declared.Answer.{Answer}
 use Rattle.answers.specs.declared.Cells.{Cells}
 use Rattle.answers.proofs.Bounds.{level-within, climbing-within, rating-within}
 use Rattle.answers.proofs.ProgramAnswers.{whole}
-use Rattle.query.specs.Parts.{entering, numberAt}
+use Rattle.query.specs.Parts.{finding, numberAt}
 use Rattle.query.proofs.Programs.{ends, lt-yes, lt-no, eq-yes, eq-no}
 
 -- where x is asked of v, and the answer is at depth d
@@ -34,16 +33,16 @@ abbrev pub atRating : ℕ → ℕ → ℕ → ℕ → Reading
 atRating v d n depth = asked v (min d depth) (min d depth) n depth
 
 module _ (t : List ℕ) (v x : ℕ) where
-  pub whole-level : answerFrom t (listed []) (entering (length t) v (atLevel v x)) ≡ answerTo t (level (length t) v x)
-  unfolding level fromEntry afterDepth entering
+  pub whole-level : answerFrom t (listed []) (finding (length t) v (atLevel v x)) ≡ answerTo t (level (length t) v x)
+  unfolding level fromEntry afterDepth finding
   whole-level = whole t 10 (level (length t) v x) (level-within (length t) v x) (lit≤ tt)
 
-  pub whole-climb : answerFrom t (listed []) (entering (length t) v (atClimb v x)) ≡ answerTo t (climbing (length t) v x)
-  unfolding climbing fromEntry afterDepth entering
+  pub whole-climb : answerFrom t (listed []) (finding (length t) v (atClimb v x)) ≡ answerTo t (climbing (length t) v x)
+  unfolding climbing fromEntry afterDepth finding
   whole-climb = whole t 10 (climbing (length t) v x) (climbing-within (length t) v x) (lit≤ tt)
 
-  pub whole-rating : answerFrom t (listed []) (entering (length t) v (atRating v x)) ≡ answerTo t (rating (length t) v x)
-  unfolding rating fromRated afterDepth entering
+  pub whole-rating : answerFrom t (listed []) (finding (length t) v (atRating v x)) ≡ answerTo t (rating (length t) v x)
+  unfolding rating fromRated afterDepth finding
   whole-rating = whole t 10 (rating (length t) v x) (rating-within (length t) v x) (lit≤ tt)
 
 module _ (t : List ℕ) (cs : Cells) (n v x d depth : ℕ) where

@@ -4,8 +4,6 @@ use Prim.Native.Nat.{_+_, _-_}
 use native.Mathlib.Omega.{arith}
 use lib.Dec.{lit<}
 use borrow.Author.Needs.{needs}
-use Rattle.base.specs.Limits.{groupLimit}
-use Rattle.shapes.specs.Climbs.{localDepth}
 use Rattle.answers.specs.Answers.{answerWords}
 use Rattle.answers.specs.Steps.{inGroup}
 use Rattle.query.proofs.Programs.{steps, got-held}

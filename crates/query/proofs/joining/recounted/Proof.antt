@@ -1,6 +1,4 @@
 -- `joining::recounted` meets its contract. Assumes nothing.
-use mathlib.Core.Path.{_≡_, ap, _∙_}
-use native.Mathlib.Omega.{arith}
 use borrow.Author.Needs.{needs}
 use Rattle.query.proofs.joining.Recounts.{recount}
 use Rattle.query.proofs.joining.recounted.Statement.{statement}

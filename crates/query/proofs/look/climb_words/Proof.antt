@@ -9,8 +9,8 @@ use Rattle.query.proofs.look.climb_words.Tie as tie
 
 returns : tie.Need-returns
 returns c =
-    let enter = c .before .before .enter in
-    enter .ensures .ended (c .if1 .taken) (atClimb _ _) ∙ ap answerWords (whole-climb _ _ _)
+    let find = c .before .before .find in
+    find .ensures .ended (c .if1 .taken) (atClimb _ _) ∙ ap answerWords (whole-climb _ _ _)
 
 returns-2 : tie.Need-returns-2
 returns-2 c =
@@ -18,7 +18,7 @@ returns-2 c =
     let deep = two .before in
     let test = deep .before .before .before in
     c .end .ensures ∙ ap answerWords
-    (rw (two .first-two .ensures) (past _ _ _ _ _ _ _ (deep .if2 .taken)) ∙ test .before .before .enter .ensures .goes (test .if1 .left) (atClimb _ _) ∙ whole-climb _ _ _)
+    (rw (two .first-two .ensures) (past _ _ _ _ _ _ _ (deep .if2 .taken)) ∙ test .before .before .find .ensures .goes (test .if1 .left) (atClimb _ _) ∙ whole-climb _ _ _)
 
 returns-3 : tie.Need-returns-3
 returns-3 c =
@@ -27,14 +27,14 @@ returns-3 c =
     let deep = none .before in
     let test = deep .before .before .before in
     c .end2 .ensures ∙ ap answerWords
-    (rw (two .first-two2 .ensures) (own _ _ _ _ _ _ _ (deep .if2 .left) (omega arith)) ∙ test .before .before .enter .ensures .goes (test .if1 .left) (atClimb _ _) ∙ whole-climb _ _ _)
+    (rw (two .first-two2 .ensures) (own _ _ _ _ _ _ _ (deep .if2 .left) (omega arith)) ∙ test .before .before .find .ensures .goes (test .if1 .left) (atClimb _ _) ∙ whole-climb _ _ _)
 
 returns-4 : tie.Need-returns-4
 returns-4 c =
     let none = c .before .before .before in
     let deep = none .before in
     let test = deep .before .before .before in
-    c .above .ensures ∙ ap answerWords (onward _ _ _ _ _ _ _ (deep .if2 .left) _ _ (omega (arith, none .if3 .left)) (omega arith) (omega arith) ∙ test .before .before .enter .ensures .goes (test .if1 .left) (atClimb _ _) ∙ whole-climb _ _ _)
+    c .above .ensures ∙ ap answerWords (onward _ _ _ _ _ _ _ (deep .if2 .left) _ _ (omega (arith, none .if3 .left)) (omega arith) (omega arith) ∙ test .before .before .find .ensures .goes (test .if1 .left) (atClimb _ _) ∙ whole-climb _ _ _)
 
 pub climb-words-spec : {M : Type 1} → statement M
 climb-words-spec =
@@ -42,7 +42,7 @@ climb-words-spec =
     (tie.spec
     (λ c κs. search needs)
     returns
-    (λ c. let test = c .before in let enter = test .before .before .enter in omega (arith, enter .ensures .known (test .if1 .left), enter .ensures .room (test .if1 .left) .few))
+    (λ c. let test = c .before in let find = test .before .before .find in omega (arith, find .ensures .known (test .if1 .left), find .ensures .room (test .if1 .left) .few))
     (λ c κs. search needs)
     (λ c κs. search needs)
     returns-2
@@ -51,7 +51,7 @@ climb-words-spec =
     returns-3
     (λ c κs.
     let test = c .before .before .before .before .before .before in
-    let enter = test .before .before .enter in
-    let room = enter .ensures .room (test .if1 .left) in
-    (room, omega (arith, enter .ensures .known (test .if1 .left))))
+    let find = test .before .before .find in
+    let room = find .ensures .room (test .if1 .left) in
+    (room, omega (arith, find .ensures .known (test .if1 .left))))
     returns-4)

@@ -9,8 +9,8 @@ use Rattle.query.proofs.look.rating_words.Tie as tie
 
 returns : tie.Need-returns
 returns c =
-    let enter = c .before .before .enter in
-    enter .ensures .ended (c .if1 .taken) (atRating _ _) ∙ ap answerWords (whole-rating _ _ _)
+    let find = c .before .before .find in
+    find .ensures .ended (c .if1 .taken) (atRating _ _) ∙ ap answerWords (whole-rating _ _ _)
 
 returns-2 : tie.Need-returns-2
 returns-2 c =
@@ -18,13 +18,13 @@ returns-2 c =
     let low = two .before in
     let test = low .before .before .before in
     c .put .ensures ∙ ap answerWords
-    (rw (two .first-two .ensures) (rated-own _ _ _ _ _ _ (low .if2 .taken)) ∙ test .before .before .enter .ensures .goes (test .if1 .left) (atRating _ _) ∙ whole-rating _ _ _)
+    (rw (two .first-two .ensures) (rated-own _ _ _ _ _ _ (low .if2 .taken)) ∙ test .before .before .find .ensures .goes (test .if1 .left) (atRating _ _) ∙ whole-rating _ _ _)
 
 returns-3 : tie.Need-returns-3
 returns-3 c =
     let deep = c .before .before .before in
     let test = deep .before .before .before in
-    c .above .ensures ∙ ap answerWords (rated-onward _ _ _ _ _ _ _ _ (omega arith) (omega arith) (omega arith) ∙ test .before .before .enter .ensures .goes (test .if1 .left) (atRating _ _) ∙ whole-rating _ _ _)
+    c .above .ensures ∙ ap answerWords (rated-onward _ _ _ _ _ _ _ _ (omega arith) (omega arith) (omega arith) ∙ test .before .before .find .ensures .goes (test .if1 .left) (atRating _ _) ∙ whole-rating _ _ _)
 
 pub rating-words-spec : {M : Type 1} → statement M
 rating-words-spec =
@@ -32,14 +32,14 @@ rating-words-spec =
     (tie.spec
     (λ c κs. search needs)
     returns
-    (λ c. let test = c .before in let enter = test .before .before .enter in omega (arith, enter .ensures .known (test .if1 .left), enter .ensures .room (test .if1 .left) .few))
+    (λ c. let test = c .before in let find = test .before .before .find in omega (arith, find .ensures .known (test .if1 .left), find .ensures .room (test .if1 .left) .few))
     (λ c κs. search needs)
     (λ c κs. search needs)
     returns-2
     (λ c. search needs)
     (λ c κs.
     let test = c .before .before .before .before .before in
-    let enter = test .before .before .enter in
-    let room = enter .ensures .room (test .if1 .left) in
-    (room, omega (arith, enter .ensures .known (test .if1 .left))))
+    let find = test .before .before .find in
+    let room = find .ensures .room (test .if1 .left) in
+    (room, omega (arith, find .ensures .known (test .if1 .left))))
     returns-3)

@@ -1,16 +1,16 @@
--- `look::enter` meets its contract. Assumes nothing.
-use mathlib.Core.Path.{_≡_, refl, sym, ap, _∙_}
+-- `look::find` meets its contract. Assumes nothing.
+use mathlib.Core.Path.{refl, sym, ap, _∙_}
 use borrow.Author.Needs.{needs}
 use Rattle.answers.specs.Answers.{answerWords}
-use Rattle.query.specs.Parts.{entering}
+use Rattle.query.specs.Parts.{finding}
 use Rattle.query.specs.declared.reading.Got.{Got}
-use Rattle.query.proofs.look.Counts.{open-broken, one-held, enters, two-cells}
+use Rattle.query.proofs.look.Counts.{open-broken, found-from, two-cells}
 use Rattle.query.proofs.Programs.{steps}
-use Rattle.query.proofs.look.enter.Statement.{statement}
-use Rattle.query.proofs.look.enter.Tie as tie
+use Rattle.query.proofs.look.find.Statement.{statement}
+use Rattle.query.proofs.look.find.Tie as tie
 
 returns : tie.Need-returns
-unfolding entering
+unfolding finding
 returns c =
     let test = c .before .before in
     let count = test .before .before .opened in
@@ -29,7 +29,7 @@ returns-2 c =
       room = λ z. absurd (z refl);
       known = λ z. absurd (z refl);
       goes = λ z. absurd (z refl);
-      ended = λ z next. c .end2 .ensures ∙ ap answerWords (enters _ _ (count .result) (count .ensures) (test .if1 .left) next _ (search steps));
+      ended = λ z next. c .end2 .ensures ∙ ap answerWords (found-from _ _ (count .result) (count .ensures) (test .if1 .left) next _ (search steps));
     }
 
 returns-3 : tie.Need-returns-3
@@ -40,7 +40,7 @@ returns-3 c =
       room = λ z. absurd (z refl);
       known = λ z. absurd (z refl);
       goes = λ z. absurd (z refl);
-      ended = λ z next. c .end3 .ensures ∙ ap answerWords (enters _ _ (count .result) (count .ensures) (test .if1 .left) next _ (search steps));
+      ended = λ z next. c .end3 .ensures ∙ ap answerWords (found-from _ _ (count .result) (count .ensures) (test .if1 .left) next _ (search steps));
     }
 
 returns-4 : tie.Need-returns-4
@@ -54,12 +54,12 @@ returns-4 c =
     record {
       room = λ z. count .ensures .room left;
       known = λ z. known .if2 .left;
-      goes = λ z next. enters _ _ (count .result) (count .ensures) left next _ (rw (← cells) (search steps));
+      goes = λ z next. found-from _ _ (count .result) (count .ensures) left next _ (rw (← cells) (search steps));
       ended = λ z. absurd (left z);
     }
 
-pub enter-spec : {M : Type 1} → statement M
-enter-spec =
+pub find-spec : {M : Type 1} → statement M
+find-spec =
     tie.close
     (tie.spec
     (λ c κs. search needs)
