@@ -19,7 +19,7 @@ pub(crate) fn end(number: u32, word: u32, cells: Cells, words: &mut [u32; ANSWER
     put(number, word, cells, words);
 }
 
-// For an end of step 2, which no end past it is joined with.
+// As `end`, for an end that stands alone in its function.
 pub(crate) fn put(number: u32, word: u32, cells: Cells, words: &mut [u32; ANSWER_WORDS])
     ensures { λ _. ⌜ now (words .exit) ≡ answerWords (record { number = number; word = word; cells = cells }) ⌝ }
 {

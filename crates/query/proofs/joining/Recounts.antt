@@ -24,56 +24,56 @@ unfoldable WithoutFirst : Reading → Type 0
 WithoutFirst (done o) = Unit
 WithoutFirst (read cell k) = (0 < cell) × ((w : ℕ) → WithoutFirst (k w))
 
-past-done : (o : Outcome) → WithoutFirst (done o)
+without-done : (o : Outcome) → WithoutFirst (done o)
 unfolding WithoutFirst
-past-done o = tt
+without-done o = tt
 
-past-read : (cell : ℕ) (k : ℕ → Reading) → 0 < cell → ((w : ℕ) → WithoutFirst (k w)) → WithoutFirst (read cell k)
+without-read : (cell : ℕ) (k : ℕ → Reading) → 0 < cell → ((w : ℕ) → WithoutFirst (k w)) → WithoutFirst (read cell k)
 unfolding WithoutFirst
-past-read cell k h i = (h, i)
+without-read cell k h i = (h, i)
 
 module _ (x y : ℕ) (p q : Reading) (h : WithoutFirst p) (i : WithoutFirst q) where
-  past-cond : (b : Bool) → WithoutFirst (cond b p q)
-  past-cond true = h
-  past-cond false = i
+  without-cond : (b : Bool) → WithoutFirst (cond b p q)
+  without-cond true = h
+  without-cond false = i
 
-  past-le : WithoutFirst (ifLe x y p q)
+  without-le : WithoutFirst (ifLe x y p q)
   unfolding ifLe
-  past-le = past-cond (leb x y)
+  without-le = without-cond (leb x y)
 
-  past-lt : WithoutFirst (ifLt x y p q)
+  without-lt : WithoutFirst (ifLt x y p q)
   unfolding ifLt
-  past-lt = past-cond (ltb x y)
+  without-lt = without-cond (ltb x y)
 
-past-none : (o : Option ℕ) (p : Reading) (q : ℕ → Reading) → WithoutFirst p → ((e : ℕ) → WithoutFirst (q e)) → WithoutFirst (ifNone o p q)
+without-none : (o : Option ℕ) (p : Reading) (q : ℕ → Reading) → WithoutFirst p → ((e : ℕ) → WithoutFirst (q e)) → WithoutFirst (ifNone o p q)
 unfolding ifNone Option·elim
-past-none none p q h i = h
-past-none (some e) p q h i = i e
+without-none none p q h i = h
+without-none (some e) p q h i = i e
 
-jump-past : (n d jump : ℕ) → WithoutFirst (fromJump n d jump)
+jump-without : (n d jump : ℕ) → WithoutFirst (fromJump n d jump)
 unfolding fromJump afterJumpDepth readAncestor afterAncestor afterLadpos afterClass
-jump-past n d jump =
-    past-le _ _ _ _ (past-done _)
-    (past-read _ _ (omega arith) (λ depth.
-    past-le _ _ _ _ (past-done _)
-    (past-lt _ _ _ _ (past-done _)
-    (past-none _ _ _ (past-done _) (λ e.
-    past-read _ _ (omega arith) (λ w.
-    past-le _ _ _ _ (past-done _)
-    (past-read _ _ (omega arith) (λ index.
-    past-lt _ _ _ _ (past-done _)
-    (past-le _ _ _ _ (past-done _)
-    (past-read _ _ (omega arith) (λ class. past-le _ _ _ _ (past-done _) (past-done _))))))))))))
+jump-without n d jump =
+    without-le _ _ _ _ (without-done _)
+    (without-read _ _ (omega arith) (λ depth.
+    without-le _ _ _ _ (without-done _)
+    (without-lt _ _ _ _ (without-done _)
+    (without-none _ _ _ (without-done _) (λ e.
+    without-read _ _ (omega arith) (λ w.
+    without-le _ _ _ _ (without-done _)
+    (without-read _ _ (omega arith) (λ index.
+    without-lt _ _ _ _ (without-done _)
+    (without-le _ _ _ _ (without-done _)
+    (without-read _ _ (omega arith) (λ class. without-le _ _ _ _ (without-done _) (without-done _))))))))))))
 
-trace-past : (t : List ℕ) (p : Reading) → WithoutFirst p → (i : ℕ) → i < length (trace t p) → 0 < getD (trace t p) i 0
+trace-without : (t : List ℕ) (p : Reading) → WithoutFirst p → (i : ℕ) → i < length (trace t p) → 0 < getD (trace t p) i 0
 unfolding trace WithoutFirst
-trace-past t (done o) h i b = absurd (omega arith)
-trace-past t (read cell k) h zero b = h .0
-trace-past t (read cell k) h (suc i) b = trace-past t (k (wordAt t cell)) (h .1 (wordAt t cell)) i (omega arith)
+trace-without t (done o) h i b = absurd (omega arith)
+trace-without t (read cell k) h zero b = h .0
+trace-without t (read cell k) h (suc i) b = trace-without t (k (wordAt t cell)) (h .1 (wordAt t cell)) i (omega arith)
 
 jump-used : (t : List ℕ) (n d jump i : ℕ) → i < answerTo t (fromJump n d jump) .cells .count → 0 < getD (answerTo t (fromJump n d jump) .cells .at) i 0
 unfolding answerTo listed
-jump-used t n d jump i b = rw (listed-at (trace t (fromJump n d jump)) i b) (trace-past t (fromJump n d jump) (jump-past n d jump) i b)
+jump-used t n d jump i b = rw (listed-at (trace t (fromJump n d jump)) i b) (trace-without t (fromJump n d jump) (jump-without n d jump) i b)
 
 pub jump-cells : (t : List ℕ) (n d jump : ℕ) (a : Answer) → a ≡ answerFrom t (listed []) (fromJump n d jump) → JumpCells (a .cells)
 jump-cells t n d jump a e = record { held = jump-held t n d jump a e; four = jump-four t n d jump a e; used = rw (jump-answer t n d jump a e) (jump-used t n d jump) }

@@ -10,12 +10,12 @@ use borrow.Author.Tests.{eq-eqb, ne-eqb, lt-ltb, le-ltb}
 use Rattle.base.specs.Limits.{Sized, mostEntries, headerMark, entriesOf, tableWords, depthCell}
 use Rattle.base.specs.Numbers.{unknown}
 use Rattle.answers.specs.Reading.{Reading, done, read, ifLe, ifLt, ifEq, wordAt}
-use Rattle.answers.specs.Answers.{pushed, pushedAll, listed, answerFrom}
+use Rattle.answers.specs.Answers.{pushed, pushedAll, listed, answerFrom, answerWords}
 use Rattle.answers.specs.Steps.{broken, afterCount, opened}
 use Rattle.answers.specs.declared.Answer.{Answer}
 use Rattle.answers.specs.declared.Cells.{Cells}
 use Rattle.answers.proofs.ProgramAnswers.{push-all-listed}
-use Rattle.query.specs.Parts.{Held, countFrom, countIn, firstOf, openFrom, finding, OpenedBy}
+use Rattle.query.specs.Parts.{Held, countFrom, countIn, firstOf, openFrom, finding, OpenedBy, FoundBy}
 use Rattle.query.specs.declared.look.Count.{Count}
 use Rattle.query.proofs.Programs.{ends, eq-yes, eq-no, lt-yes, lt-no}
 
@@ -139,6 +139,10 @@ opened-by t = go (decLt (length t) 4)
           one = λ z. first-there (length t) long ∙ first-one;
           goes = λ next. rw (count-there t long, first-there (length t) long) (count-goes t (pushed (listed []) 0) (entriesOf (wordAt t 0)) next ∙ first-goes t next long);
         }
+
+-- a lookup that has ended, whatever it would go on with
+pub has-ended : (t : List ℕ) (v : ℕ) (words : List ℕ) → ((next : ℕ → ℕ → Reading) → words ≡ answerWords (answerFrom t (listed []) (finding (length t) v next))) → FoundBy t v (record { n = 0; depth = 0 }) words
+has-ended t v words h = record { room = λ z. absurd (z refl); known = λ z. absurd (z refl); goes = λ z. absurd (z refl); ended = λ z. h }
 
 -- a program that goes on with v, from step 1
 pub found-from : (t : List ℕ) (v : ℕ) (o : Count) → OpenedBy t o → (o .n ≡ 0 → ⊥) → (next : ℕ → ℕ → Reading) (r : Answer)

@@ -1,10 +1,10 @@
 -- `look::find` meets its contract. Assumes nothing.
-use mathlib.Core.Path.{refl, sym, ap, _∙_}
+use mathlib.Core.Path.{sym, ap, _∙_}
 use borrow.Author.Needs.{needs}
 use Rattle.answers.specs.Answers.{answerWords}
 use Rattle.query.specs.Parts.{finding}
 use Rattle.query.specs.declared.reading.Got.{Got}
-use Rattle.query.proofs.look.Counts.{open-broken, found-from, two-cells}
+use Rattle.query.proofs.look.Counts.{open-broken, has-ended, found-from, two-cells}
 use Rattle.query.proofs.Programs.{steps}
 use Rattle.query.proofs.look.find.Statement.{statement}
 use Rattle.query.proofs.look.find.Tie as tie
@@ -14,34 +14,19 @@ unfolding finding
 returns c =
     let test = c .before .before in
     let count = test .before .before .opened in
-    record {
-      room = λ z. absurd (z refl);
-      known = λ z. absurd (z refl);
-      goes = λ z. absurd (z refl);
-      ended = λ z next. c .end .ensures ∙ ap answerWords (sym (open-broken _ (count .result) _ (test .if1 .taken)) ∙ count .ensures .goes _);
-    }
+    has-ended _ _ _ (λ next. c .end .ensures ∙ ap answerWords (sym (open-broken _ (count .result) _ (test .if1 .taken)) ∙ count .ensures .goes _))
 
 returns-2 : tie.Need-returns-2
 returns-2 c =
     let test = c .before .before .before .before in
     let count = test .before .before .opened in
-    record {
-      room = λ z. absurd (z refl);
-      known = λ z. absurd (z refl);
-      goes = λ z. absurd (z refl);
-      ended = λ z next. c .end2 .ensures ∙ ap answerWords (found-from _ _ (count .result) (count .ensures) (test .if1 .left) next _ (search steps));
-    }
+    has-ended _ _ _ (λ next. c .end2 .ensures ∙ ap answerWords (found-from _ _ (count .result) (count .ensures) (test .if1 .left) next _ (search steps)))
 
 returns-3 : tie.Need-returns-3
 returns-3 c =
     let test = c .before .before .before .before .before .before .before in
     let count = test .before .before .opened in
-    record {
-      room = λ z. absurd (z refl);
-      known = λ z. absurd (z refl);
-      goes = λ z. absurd (z refl);
-      ended = λ z next. c .end3 .ensures ∙ ap answerWords (found-from _ _ (count .result) (count .ensures) (test .if1 .left) next _ (search steps));
-    }
+    has-ended _ _ _ (λ next. c .end3 .ensures ∙ ap answerWords (found-from _ _ (count .result) (count .ensures) (test .if1 .left) next _ (search steps)))
 
 returns-4 : tie.Need-returns-4
 returns-4 c =
