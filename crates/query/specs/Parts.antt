@@ -81,6 +81,7 @@ finding len v next = opened len (λ n. ifLe n v (done (unknown v)) (read (depthC
 pub record FoundBy (t : List ℕ) (v : ℕ) (e : Found) (words : List ℕ) : Type 0 where
   pub room : (e .n ≡ 0 → ⊥) → Sized t (e .n)
   pub known : (e .n ≡ 0 → ⊥) → v < e .n
+  pub low : (e .n ≡ 0 → ⊥) → e .depth < e .n
   pub goes : (e .n ≡ 0 → ⊥) → (next : ℕ → ℕ → Reading) → answerFrom t (listed (0 ∷ depthCell (e .n) v ∷ [])) (next (e .n) (e .depth)) ≡ answerFrom t (listed []) (finding (length t) v next)
   pub ended : e .n ≡ 0 → (next : ℕ → ℕ → Reading) → words ≡ answerWords (answerFrom t (listed []) (finding (length t) v next))
 

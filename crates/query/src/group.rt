@@ -34,7 +34,7 @@ pub(crate) fn from_group(
     cells: Cells,
     words: &mut [u32; ANSWER_WORDS],
 )
-    requires { ⌜ (Sized (now table) n) × (Held 3 cells) ⌝ }
+    requires { ⌜ (Sized (now table) n) × (Held 3 cells) × (d < n) ⌝ }
     ensures { λ _. ⌜ now (words .exit) ≡ answerWords (answerFrom (now (table .entry)) cells (fromGroup n d (d + climbs) group local)) ⌝ }
 {
     if n <= group {
@@ -64,7 +64,7 @@ fn after_shape(
     cells: Cells,
     words: &mut [u32; ANSWER_WORDS],
 )
-    requires { ⌜ (Sized (now table) n) × (group < n) × (Held 4 cells) ⌝ }
+    requires { ⌜ (Sized (now table) n) × (group < n) × (Held 4 cells) × (d < n) ⌝ }
     ensures { λ _. ⌜ now (words .exit) ≡ answerWords (answerFrom (now (table .entry)) cells (afterShape n d (d + climbs) group local shape)) ⌝ }
 {
     if SHAPE_COUNT <= shape {
@@ -92,7 +92,7 @@ fn in_group(
     cells: Cells,
     words: &mut [u32; ANSWER_WORDS],
 )
-    requires { ⌜ (InGroup (now table) n group shape local (row .0)) × (Held 4 cells) ⌝ }
+    requires { ⌜ (InGroup (now table) n group shape local (row .0)) × (Held 4 cells) × (d < n) ⌝ }
     ensures { λ _. ⌜ now (words .exit) ≡ answerWords (answerFrom (now (table .entry)) cells (inGroup n d (d + climbs) group local shape)) ⌝ }
 {
     let k = row.depth();
@@ -156,7 +156,7 @@ fn after_parent(
     cells: Cells,
     words: &mut [u32; ANSWER_WORDS],
 )
-    requires { ⌜ (Sized (now table) n) × (Held 5 cells) ⌝ }
+    requires { ⌜ (Sized (now table) n) × (Held 5 cells) × (d < n) ⌝ }
     ensures { λ _. ⌜ now (words .exit) ≡ answerWords (answerFrom (now (table .entry)) cells (afterParent n d (d + left) (p .0))) ⌝ }
 {
     if n <= p.0 {
@@ -182,7 +182,7 @@ fn after_parent_kind(
     cells: Cells,
     words: &mut [u32; ANSWER_WORDS],
 )
-    requires { ⌜ (Sized (now table) n) × (Held 6 cells) ⌝ }
+    requires { ⌜ (Sized (now table) n) × (Held 6 cells) × (d < n) ⌝ }
     ensures { λ _. ⌜ now (words .exit) ≡ answerWords (answerFrom (now (table .entry)) cells (afterParentKind n d kind)) ⌝ }
 {
     let a = from_jump(table, n, d, kind);

@@ -23,7 +23,7 @@ use base::powers::exponent;
 
 // Step 4 from a jump entry, with a list of its own, of four cells at most.
 pub(crate) fn from_jump(table: &[u32], n: u32, d: u32, jump: u32) -> Answer
-    requires { ⌜ Sized (now table) n ⌝ }
+    requires { ⌜ (Sized (now table) n) × (d < n) ⌝ }
     ensures { λ r. ⌜ r ≡ answerFrom (now (table .entry)) (listed []) (fromJump n d jump) ⌝ }
 {
     let cells = Cells::new();
@@ -36,18 +36,19 @@ pub(crate) fn from_jump(table: &[u32], n: u32, d: u32, jump: u32) -> Answer
     after_jump_depth(table, n, d, jump, depth, more)
 }
 
-// The jump entry's depth.
+// The jump entry's depth, below d and less than n. The second is tested of the climbs: two plain tests of one word the compiler joins into one branch, on which the
+// exponent then waits.
 fn after_jump_depth(table: &[u32], n: u32, d: u32, jump: u32, depth: u32, cells: Cells) -> Answer
-    requires { ⌜ (Sized (now table) n) × (jump < jumpRoom n) ⌝ }
+    requires { ⌜ (Sized (now table) n) × (jump < jumpRoom n) × (d < n) ⌝ }
     ensures { λ r. ⌜ r ≡ answerFrom (now (table .entry)) cells (afterJumpDepth n d jump depth) ⌝ }
 {
-    if n <= depth {
-        return broken(cells);
-    }
-    if depth < d {
+    if depth <= d {
         return broken(cells);
     }
     let x = depth - d;
+    if n - d - 1 < x {
+        return broken(cells);
+    }
     match exponent(x) {
         LargestPower::None => broken(cells),
         LargestPower::Exponent(e) => read_ancestor(table, n, jump, x, e, cells),

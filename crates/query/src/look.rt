@@ -189,7 +189,7 @@ fn number_at(depth: u32, d: u32) -> u32
 // Past step 2, from the cell of DEPTH of an entry to so many climbs above it, at depth d: KIND is n cells on. The parameters stand in an order
 // in which few registers are moved between the C functions and this one.
 fn above(table: &[u32], climbs: u32, cell: u32, d: u32, words: &mut [u32; ANSWER_WORDS], n: u32)
-    requires { ⌜ (Sized (now table) n) × (cell + n < tableWords n) ⌝ }
+    requires { ⌜ (Sized (now table) n) × (cell + n < tableWords n) × (d < n) ⌝ }
     ensures { λ _. ⌜ now (words .exit) ≡ answerWords (answerFrom (now (table .entry)) (listed (0 ∷ cell ∷ [])) (read (cell + n) (afterKind n d (d + climbs)))) ⌝ }
 {
     let rest = table;
@@ -211,7 +211,7 @@ fn after_kind(
     cells: Cells,
     words: &mut [u32; ANSWER_WORDS],
 )
-    requires { ⌜ (Sized (now table) n) × (Held 3 cells) ⌝ }
+    requires { ⌜ (Sized (now table) n) × (Held 3 cells) × (d < n) ⌝ }
     ensures { λ _. ⌜ now (words .exit) ≡ answerWords (answerFrom (now (table .entry)) cells (afterKind n d (d + climbs) kind)) ⌝ }
 {
     if MICRO_MARK <= kind {

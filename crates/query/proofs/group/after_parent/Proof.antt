@@ -25,7 +25,7 @@ after-parent-spec =
     c .end2 .ensures ∙ ap answerWords (search steps))
     (λ c. search needs)
     (λ c κs. search needs)
-    (λ c κs. (search needs, got-held _ _ _ _ 5 (c .before .before .read .ensures) (c .before .before .before .before .before .before .before .pre .1) (lit< tt)))
+    (λ c κs. (search needs, got-held _ _ _ _ 5 (c .before .before .read .ensures) (c .before .before .before .before .before .before .before .pre .1) (lit< tt), search needs))
     (λ c.
     let some = c .before .before .before .before in
     let args = some .before .before .before .before .args in

@@ -37,6 +37,7 @@ after-shape-spec =
         local-in = inside (start .args .shape) (start .args .local) _ (row .climbs-of .ensures) _ (cell .reached .ensures) (test .if2 .left);
       },
       start .pre .2,
+      start .pre .3,
     ))
     (λ c.
     let test = c .before .before in

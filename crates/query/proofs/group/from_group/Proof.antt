@@ -20,5 +20,5 @@ from-group-spec =
     (λ c. search needs)
     (λ c. search needs)
     (λ c κs. search needs)
-    (λ c κs. (search needs, search needs, got-held _ _ _ _ 3 (c .before .before .read .ensures) (c .before .before .before .before .before .pre .1) (lit< tt)))
+    (λ c κs. (search needs, search needs, got-held _ _ _ _ 3 (c .before .before .read .ensures) (c .before .before .before .before .before .pre .1) (lit< tt), search needs))
     (λ c. c .after-shape .ensures ∙ ap answerWords (search steps)))

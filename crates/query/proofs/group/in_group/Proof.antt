@@ -44,7 +44,7 @@ in-group-spec =
     (λ c κs. search needs)
     (λ c. search needs)
     (λ c. search needs)
-    (λ c κs. (search needs, got-held _ _ _ _ 4 (c .before .before .read .ensures) (c .before .before .before .before .before .before .pre .1) (lit< tt)))
+    (λ c κs. (search needs, got-held _ _ _ _ 4 (c .before .before .read .ensures) (c .before .before .before .before .before .before .pre .1) (lit< tt), search needs))
     returns
     (λ c. search needs)
     (λ c. search needs)

@@ -34,5 +34,5 @@ above-spec =
     let three = c .before in
     let two = three .before in
     let p = two .before .before .before .pre in
-    (p .0, rw (three .push .ensures) (pushed-held _ _ 2 (record { list = 0 ∷ _ ∷ []; long = refl; is = two .first-two .ensures }) (lit< tt))))
+    (p .0, rw (three .push .ensures) (pushed-held _ _ 2 (record { list = 0 ∷ _ ∷ []; long = refl; is = two .first-two .ensures }) (lit< tt)), p .2))
     returns)
