@@ -16,9 +16,7 @@ use base::Position;
 use base::limits::GROUP_WORDS;
 use base::limits::GROUPS;
 use base::limits::HEADER_CELLS;
-use base::limits::NO_LOCAL;
 use base::limits::ORDER;
-use base::limits::SHAPE_COUNT;
 use base::numbers::ACCEPTED;
 use base::numbers::BROKEN;
 use shapes::Climbs;
@@ -52,7 +50,7 @@ pub(crate) fn from_group(
     after_shape(table, n, d, climbs, group, local, shape, more, words);
 }
 
-// The shape, which is one of a group that has the local number.
+// The shape, which is one of a group that has the local number: climbs lead out from there, and from none of a number of no shape.
 fn after_shape(
     table: &[u32],
     n: u32,
@@ -67,19 +65,15 @@ fn after_shape(
     requires { ⌜ (Sized (now table) n) × (group < n) × (Held 4 cells) × (d < n) ⌝ }
     ensures { λ _. ⌜ now (words .exit) ≡ answerWords (answerFrom (now (table .entry)) cells (afterShape n d (d + climbs) group local shape)) ⌝ }
 {
-    if SHAPE_COUNT <= shape {
-        end(BROKEN, 0, cells, words);
-        return;
-    }
     let row = climbs_of(shape, local);
-    if row.reached(0) == NO_LOCAL {
+    if row.out() == 0 {
         end(BROKEN, 0, cells, words);
         return;
     }
     in_group(table, n, d, climbs, group, shape, local, row, cells, words);
 }
 
-// Within the group where the climbs asked end there, else from the group's parent. k is the depth in the group.
+// Within the group where the climbs asked end there, else from the group's parent, which so many climbs reach as lead out.
 fn in_group(
     table: &[u32],
     n: u32,
@@ -95,8 +89,8 @@ fn in_group(
     requires { ⌜ (InGroup (now table) n group shape local (row .0)) × (Held 4 cells) × (d < n) ⌝ }
     ensures { λ _. ⌜ now (words .exit) ≡ answerWords (answerFrom (now (table .entry)) cells (inGroup n d (d + climbs) group local shape)) ⌝ }
 {
-    let k = row.depth();
-    if k < climbs {
+    let out = row.out();
+    if out <= climbs {
         let got = read(
             table,
             HEADER_CELLS + GROUPS * n + GROUP_WORDS * group,
@@ -105,7 +99,7 @@ fn in_group(
         );
         let p = Node(got.word);
         let more = got.cells;
-        after_parent(table, n, d, climbs - k - 1, p, more, words);
+        after_parent(table, n, d, climbs - out, p, more, words);
         return;
     }
     let got = read(table, HEADER_CELLS + GROUPS * n, GROUP_WORDS * group, cells);

@@ -17,7 +17,7 @@ use Rattle.tree.specs.Faults.{Tree}
 use Rattle.tree.proofs.Climbs.{parent-in, parent-some, up-step, up-first, up-from, entry-in, entry-some}
 use Rattle.tree.proofs.Depths.{up-some, up-none}
 use Rattle.shapes.specs.Walks.{down, up, Walk, shapes}
-use Rattle.shapes.specs.Climbs.{parents, parentList, reached, localDepth, mark, rowOf}
+use Rattle.shapes.specs.Climbs.{parents, parentList, reached, localDepth, climbsOut, mark, rowOf}
 use Rattle.shapes.proofs.Sizes.{shape-fits}
 
 -- the local numbers on a path are below m
@@ -150,3 +150,11 @@ row-at L small s l k = go (decLt k L)
 pub row-past : (L : ℕ) → L ≤ 255 → (s l : ℕ) → L ≤ l → rowOf L s l ≡ below L (λ k. 255)
 unfolding rowOf
 row-past L small s l h = each-same L 0 (λ k. mark (reached L s l k)) (λ k. 255) (λ k. ap mark (reached-past L small s l k (inl h)))
+
+-- nothing leads out from a local number that is not there
+pub none-out : (L s l : ℕ) → reached L s l 0 ≡ none → climbsOut L s l ≡ 0
+unfolding climbsOut Option·elim
+none-out L s l e = ap (λ (o : Option ℕ). Option·elim o 0 (λ j. suc (localDepth L s l))) e
+
+pub out-past : (L : ℕ) → L ≤ 255 → (s l : ℕ) → L ≤ l → climbsOut L s l ≡ 0
+out-past L small s l h = none-out L s l (reached-past L small s l 0 (inl h))

@@ -1,35 +1,24 @@
--- What a packed row says of its local number. Assumes nothing.
+-- What a field of a shape's word says of its local number. Assumes nothing.
 use mathlib.Core.Path.{_≡_, refl, sym, ap, _∙_}
 use mathlib.Core.Bool.{Bool, true, false, cond}
-use mathlib.Core.List.{List, []}
-use mathlib.Core.Option.{Option, none, some}
-use mathlib.Core.Logic.{inr}
-use Prim.Native.Nat.{ℕ, suc, _≤_, _<_}
+use mathlib.Core.List.{List, [], _∷_}
+use mathlib.Core.Option.{Option, none, some, Option·elim}
+use Prim.Native.Nat.{ℕ, zero, suc, _/_, _%_, _≤_, _<_}
 use native.Mathlib.Omega.{arith}
-use native.Mathlib.Decide.{decLe, decLt}
-use lib.ListN.{getD}
 use lib.Dec.{eqb, ltb}
-use borrow.Author.Tests.{lt-ltb, le-ltb, ne-eqb, eqb-true, eqb-false}
-use Rattle.base.specs.Limits.{groupLimit}
-use Rattle.base.specs.Lists.{each, below}
-use Rattle.base.proofs.Lists.{below-at, clash}
-use Rattle.shapes.specs.Climbs.{reached, localDepth, mark, rowOf}
-use Rattle.shapes.specs.Packed.{byte, cellIn, depthIn, Packs, endsAtDepth, upward, filled, pathRow}
-use Rattle.shapes.proofs.Sizes.{reached-below}
-use Rattle.shapes.proofs.Heights.{local-in, reached-some, reached-none, reached-past, row-at}
+use lib.ListN.{length, getD, List·getD-eq-default}
+use borrow.Author.Tests.{le-ltb, eq-eqb, ne-eqb}
+use Rattle.base.specs.Limits.{groupLimit, localSpan}
+use Rattle.base.specs.Lists.{below}
+use Rattle.base.proofs.Lists.{below-at}
+use Rattle.shapes.specs.Climbs.{reached, localDepth, climbsOut, rowOf}
+use Rattle.shapes.specs.Packed.{byte, field, outIn, upward, filled, pathRow, fieldRow, cellIn, fieldRows, fieldOuts, Packs}
+use Rattle.shapes.proofs.Heights.{row-at}
 
 -- 64 and more are no path
 pub no-path : (p : ℕ) → 64 ≤ p → pathRow p ≡ filled groupLimit []
 unfolding pathRow
 no-path p h = ap (λ b. cond b (filled groupLimit (upward 6 p)) (filled groupLimit [])) (le-ltb _ _ h)
-
--- 255 is told from every local number
-pub mark-none : (s l k : ℕ) → mark (reached groupLimit s l k) ≡ 255 → reached groupLimit s l k ≡ none
-mark-none s l k e = go (reached groupLimit s l k) refl e
-  where
-    go : (o : Option ℕ) → reached groupLimit s l k ≡ o → mark o ≡ 255 → o ≡ none
-    go none q e = refl
-    go (some i) q e = absurd (omega (arith, reached-below groupLimit s l k i q))
 
 -- a local number that is in its shape is reached by no climb
 pub there : (s l : ℕ) → (reached groupLimit s l 0 ≡ none → ⊥) → (j : ℕ) × (reached groupLimit s l 0 ≡ some j)
@@ -39,50 +28,67 @@ there s l inside = go (reached groupLimit s l 0) refl
     go none q = absurd (inside q)
     go (some j) q = (j, refl)
 
--- where so many climbs reach a local number and one more reaches none, so many are its depth
-depth-is : (s l k : ℕ) → (reached groupLimit s l 0 ≡ none → ⊥) → (reached groupLimit s l k ≡ none → ⊥) → reached groupLimit s l (suc k) ≡ none → k ≡ localDepth groupLimit s l
-depth-is s l k inside at past = omega (arith, low (decLe k (localDepth groupLimit s l)), high (decLe (suc k) (localDepth groupLimit s l)))
+-- a field that has the row and the climbs out
+pub packs : (s l f : ℕ) → fieldRow f ≡ rowOf groupLimit s l → outIn f ≡ climbsOut groupLimit s l → Packs s l f
+unfolding cellIn
+packs s l f row out = record { cells = λ k. ap (λ r. getD r k 255) row ∙ row-at groupLimit (omega arith) s l k; out = out }
+
+-- the field of a local number in its shape's word
+pub field-packs : (s l word f : ℕ) → fieldRows word ≡ below localSpan (rowOf groupLimit s) → fieldOuts word ≡ below localSpan (climbsOut groupLimit s) → l < localSpan → f ≡ field word l → Packs s l f
+unfolding fieldRows fieldOuts
+field-packs s l word f rows outs h q =
+    packs s l f
+    (ap fieldRow q ∙ sym (below-at localSpan (λ k. fieldRow (field word k)) [] l h) ∙ ap (λ r. getD r l []) rows ∙ below-at localSpan (rowOf groupLimit s) [] l h)
+    (ap outIn q ∙ sym (below-at localSpan (λ k. outIn (field word k)) 0 l h) ∙ ap (λ r. getD r l 0) outs ∙ below-at localSpan (climbsOut groupLimit s) 0 l h)
+
+-- as many cells as there are climbs
+filled-length : (n : ℕ) (l : List ℕ) → length (filled n l) ≡ n
+filled-length zero l = refl
+filled-length (suc n) [] = ap suc (filled-length n [])
+filled-length (suc n) (x ∷ l) = ap suc (filled-length n l)
+
+row-length : (f : ℕ) → length (fieldRow f) ≡ groupLimit
+unfolding fieldRow pathRow
+row-length f = go (eqb (outIn f) 0) (ltb (f / 8 % 64) 64)
   where
-    low : Dec (k ≤ localDepth groupLimit s l) → k ≤ localDepth groupLimit s l
-    low (yes h) = h
-    low (no h) = let j = there s l inside in absurd (at (reached-none groupLimit (omega arith) s l (j .0) (j .1) k (omega arith)))
+    go : (a b : Bool) → length (cond a (filled groupLimit []) (cond b (filled groupLimit (upward 6 (f / 8 % 64))) (filled groupLimit []))) ≡ groupLimit
+    go true b = filled-length groupLimit []
+    go false true = filled-length groupLimit (upward 6 (f / 8 % 64))
+    go false false = filled-length groupLimit []
 
-    high : Dec (suc k ≤ localDepth groupLimit s l) → localDepth groupLimit s l ≤ k
-    high (yes h) = let j = there s l inside in let r = reached-some groupLimit (omega arith) s l (j .0) (j .1) (suc k) h in absurd (omega (arith, reached-below groupLimit s l (suc k) (r .0) (r .1), ap mark (sym (r .1) ∙ past)))
-    high (no h) = omega arith
+filled-none : (n k : ℕ) → getD (filled n []) k 255 ≡ 255
+filled-none zero k = refl
+filled-none (suc n) zero = refl
+filled-none (suc n) (suc k) = filled-none n k
 
--- the two tests of a row's end
-ends : (a b c : Bool) → cond a true (cond b false c) ≡ true → a ≡ false → (b ≡ false) × (c ≡ true)
-ends true b c e z = clash (sym z)
-ends false true c e z = clash e
-ends false false c e z = (refl, e)
-
-module _ (s l word : ℕ) (row : below groupLimit (byte word) ≡ rowOf groupLimit s l) where
-  cell : (k : ℕ) → cellIn word k ≡ mark (reached groupLimit s l k)
+-- the cells by a field: past the climbs that a row has, without a local number, and along its path
+module _ (f k : ℕ) where
+  pub past-row : groupLimit ≤ k → cellIn f k ≡ 255
   unfolding cellIn
-  cell k = go (decLt k groupLimit)
+  past-row h = List·getD-eq-default (fieldRow f) 255 (omega (arith, row-length f))
+
+  pub no-row : outIn f ≡ 0 → cellIn f k ≡ 255
+  unfolding cellIn fieldRow
+  no-row z = rw (eq-eqb (outIn f) 0 z) (filled-none groupLimit k)
+
+  pub own-row : (word : ℕ) → (outIn f ≡ 0 → ⊥) → k < groupLimit → below groupLimit (byte word) ≡ pathRow (f / 8 % 64) → byte word k ≡ cellIn f k
+  unfolding cellIn fieldRow
+  own-row word z h e = rw (ne-eqb (outIn f) 0 z) (sym (below-at groupLimit (byte word) 255 k h) ∙ ap (λ r. getD r k 255) e)
+
+-- the test that a lookup makes of a field
+module _ (s l f : ℕ) (p : Packs s l f) where
+  pub outside : (c : ℕ) → c ≡ outIn f → c ≡ 0 → reached groupLimit s l 0 ≡ none
+  unfolding climbsOut Option·elim
+  outside c e z = go (reached groupLimit s l 0) refl (sym (p .out) ∙ sym e ∙ z)
     where
-      go : Dec (k < groupLimit) → cond (ltb k groupLimit) (byte word k) 255 ≡ mark (reached groupLimit s l k)
-      go (yes h) = rw (lt-ltb k groupLimit h) (sym (below-at groupLimit (byte word) 255 k h) ∙ ap (λ r. getD r k 255) row ∙ row-at groupLimit (omega arith) s l k)
-      go (no h) = rw (le-ltb k groupLimit (omega arith)) (sym (ap mark (reached-past groupLimit (omega arith) s l k (inr (omega arith)))))
+      go : (o : Option ℕ) → reached groupLimit s l 0 ≡ o → Option·elim o 0 (λ j. suc (localDepth groupLimit s l)) ≡ 0 → o ≡ none
+      go none q e = refl
+      go (some j) q e = absurd (omega (arith, e))
 
-  reaches : (k : ℕ) → (cellIn word k ≡ 255 → ⊥) → reached groupLimit s l k ≡ none → ⊥
-  reaches k z q = z (cell k ∙ ap mark q)
+  pub inside : (c : ℕ) → c ≡ outIn f → (c ≡ 0 → ⊥) → reached groupLimit s l 0 ≡ none → ⊥
+  unfolding climbsOut Option·elim
+  inside c e z q = z (e ∙ p .out ∙ ap (λ o. Option·elim o 0 (λ j. suc (localDepth groupLimit s l))) q)
 
-  depth : endsAtDepth word ≡ true → (reached groupLimit s l 0 ≡ none → ⊥) → depthIn word ≡ localDepth groupLimit s l
-  unfolding endsAtDepth
-  depth e inside =
-      let z : cellIn word 0 ≡ 255 → ⊥ = λ q. inside (mark-none s l 0 (sym (cell 0) ∙ q)) in
-      let (at, past) = ends (eqb (cellIn word 0) 255) _ _ e (ne-eqb (cellIn word 0) 255 z) in
-      depth-is s l (depthIn word) inside (reaches (depthIn word) (eqb-false _ _ at)) (mark-none s l (suc (depthIn word)) (sym (cell (suc (depthIn word))) ∙ eqb-true _ _ past))
-
-  pub packs : endsAtDepth word ≡ true → Packs s l word
-  packs e = record { cells = cell; depth = depth e }
-
--- the cells of a packed row, with the tests that a lookup makes of the first
-module _ (s l word : ℕ) (p : Packs s l word) where
-  pub outside : (c : ℕ) → c ≡ cellIn word 0 → c ≡ 255 → reached groupLimit s l 0 ≡ none
-  outside c e z = mark-none s l 0 (sym (p .cells 0) ∙ sym e ∙ z)
-
-  pub inside : (c : ℕ) → c ≡ cellIn word 0 → (c ≡ 255 → ⊥) → reached groupLimit s l 0 ≡ none → ⊥
-  inside c e z q = z (e ∙ p .cells 0 ∙ ap mark q)
+  pub out-depth : (reached groupLimit s l 0 ≡ none → ⊥) → outIn f ≡ suc (localDepth groupLimit s l)
+  unfolding climbsOut Option·elim
+  out-depth h = let j = there s l h in p .out ∙ ap (λ o. Option·elim o 0 (λ i. suc (localDepth groupLimit s l))) (j .1)

@@ -29,6 +29,10 @@ reached L s l k = bind (getElem? (shapes L) s) (λ w. climbUp (parentList w) k l
 unfoldable pub localDepth : ℕ → ℕ → ℕ → ℕ
 localDepth L s l = Option·elim (getElem? (shapes L) s) 0 (λ w. depth (parentList w) l)
 
+-- the climbs that lead from local number l out of a group of shape s, one more than its depth; 0 where there is no such shape or local number
+unfoldable pub climbsOut : ℕ → ℕ → ℕ → ℕ
+climbsOut L s l = Option·elim (reached L s l 0) 0 (λ j. suc (localDepth L s l))
+
 -- 255 stands for none
 abbrev pub mark : Option ℕ → ℕ
 mark o = Option·getD o 255

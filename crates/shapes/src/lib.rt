@@ -6,13 +6,15 @@ pub use numbering::number;
 ghost use mathlib.Core.Path.{_≡_};
 ghost use Rattle.base.specs.Limits.{groupLimit};
 ghost use Rattle.shapes.specs.Climbs.{rowOf, rowsOf, Rule};
-ghost use Rattle.shapes.specs.Packed.{cellIn, depthIn, Packs};
+ghost use Rattle.shapes.specs.Packed.{cellIn, outIn, Packs};
 use base::limits::GROUP_LIMIT;
 use base::limits::LOCAL_NUMBERS;
+use base::limits::LOCAL_SPAN;
 use base::limits::NO_LOCAL;
 use packed::byte;
 use packed::climbs_along;
-use packed::path;
+use packed::field;
+use packed::paths;
 
 // A shape's part of the shape table: a row of seven climbs (0 to 6) for each of seven local numbers, 255 where there is none. There are 197 shapes; any other
 // number has only 255.
@@ -47,14 +49,22 @@ pub fn row(shape: u32, local: u32) -> [u8; LOCAL_NUMBERS]
     ]
 }
 
-// A row in one word, with the local number's depth in the group: a lookup takes one cell of it without building the row.
-pub struct Climbs(pub u64);
+// The field of one local number in its shape's word: a lookup takes one cell of the row by it without building the row.
+pub struct Climbs(pub u32);
 
-// The row of one local number of a shape as such a word, for every number of either.
+// The field of one local number of a shape, for every number of either. A word that is 0 is told apart: so the compiler goes by its range test of the shape alone where
+// there is no such shape.
 pub fn climbs_of(shape: u32, local: u32) -> Climbs
     ensures { λ r. ⌜ Packs shape local (r .0) ⌝ }
 {
-    Climbs(climbs_along(path(shape, local)))
+    if LOCAL_SPAN <= local {
+        return Climbs(0);
+    }
+    let word = paths(shape);
+    if word == 0 {
+        return Climbs(0);
+    }
+    Climbs(field(word, local))
 }
 
 impl Climbs {
@@ -65,13 +75,17 @@ impl Climbs {
         if GROUP_LIMIT <= climbs {
             return NO_LOCAL;
         }
-        byte(self.0, climbs)
+        if self.out() == 0 {
+            return NO_LOCAL;
+        }
+        let path = ((self.0 / 8) % 64) as u8;
+        byte(climbs_along(path), climbs)
     }
 
-    // The local number's depth in the group.
-    pub fn depth(self) -> u32
-        ensures { λ r. ⌜ r ≡ depthIn (self .0) ⌝ }
+    // The climbs that lead out of the group, 0 where the shape has no such local number.
+    pub fn out(self) -> u32
+        ensures { λ r. ⌜ r ≡ outIn (self .0) ⌝ }
     {
-        byte(self.0, GROUP_LIMIT) as u32
+        self.0 % 8
     }
 }

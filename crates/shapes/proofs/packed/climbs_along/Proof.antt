@@ -1,22 +1,20 @@
 -- `packed::climbs_along` meets its contract: each arm has the row along its path. Assumes nothing.
-use mathlib.Core.Path.{_≡_, refl, sym, ap}
-use mathlib.Core.Bool.{Bool, true}
-use mathlib.Core.List.{List}
+use mathlib.Core.Path.{_≡_, sym, ap}
 use Prim.Native.Nat.{ℕ}
 use Rattle.base.specs.Limits.{groupLimit}
 use Rattle.base.specs.Lists.{each, below}
 use Rattle.base.proofs.Arms.{past}
-use Rattle.shapes.specs.Packed.{byte, cellIn, pathRow, endsAtDepth}
+use Rattle.shapes.specs.Packed.{pathRow}
 use Rattle.shapes.proofs.PackedRows.{no-path}
 use Rattle.shapes.proofs.packed.climbs_along.Statement.{statement}
 use Rattle.shapes.proofs.packed.climbs_along.Tie as tie
 
 -- the arm of path i
-here : {p : ℕ} (i : ℕ) → p ≡ i → (pathRow i ≡ pathRow p) × (_≡_ {A = Bool} true true)
-here i e = (ap pathRow (sym e), refl)
+here : {p : ℕ} (i : ℕ) → p ≡ i → pathRow i ≡ pathRow p
+here i e = ap pathRow (sym e)
 
 pub climbs-along-spec : {M : Type 1} → statement M
-unfolding pathRow each cellIn endsAtDepth
+unfolding pathRow each
 climbs-along-spec =
     tie.close
     (tie.spec
@@ -84,4 +82,4 @@ climbs-along-spec =
     (λ c. here 61 (c .match .keys62))
     (λ c. here 62 (c .match .keys63))
     (λ c. here 63 (c .match .keys64))
-    (λ c. let p = c .before .args .path in (sym (no-path p (past 64 p (c .match .rest))), refl)))
+    (λ c. let p = c .before .args .path in sym (no-path p (past 64 p (c .match .rest)))))

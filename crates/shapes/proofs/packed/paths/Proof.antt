@@ -1,24 +1,24 @@
--- `packed::paths` meets its contract: each arm's paths have the rows that the table computes to at its number. Assumes nothing.
+-- `packed::paths` meets its contract: each arm's word has the rows, and the climbs out, that the table computes to at its number. Assumes nothing.
 use mathlib.Core.Path.{_≡_, sym, ap}
-use mathlib.Core.Option.{bind}
+use mathlib.Core.Option.{bind, Option·elim}
 use Prim.Native.Nat.{ℕ}
 use Rattle.base.specs.Limits.{groupLimit, shapeCount, localSpan}
 use Rattle.base.specs.Lists.{each, below}
 use Rattle.base.proofs.Lists.{each-same}
 use Rattle.base.proofs.Arms.{past}
-use Rattle.tree.specs.Parents.{entry, parent, up}
-use Rattle.shapes.specs.Climbs.{parentList, reached, rowOf}
-use Rattle.shapes.specs.Packed.{pathRow, pathRows}
-use Rattle.shapes.proofs.Rule.{no-shape}
+use Rattle.tree.specs.Parents.{entry, parent, up, climbWithin, depth}
+use Rattle.shapes.specs.Climbs.{parentList, reached, localDepth, climbsOut, rowOf}
+use Rattle.shapes.specs.Packed.{pathRow, fieldRow, fieldRows, fieldOuts}
+use Rattle.shapes.proofs.Rule.{no-shape, no-out}
 use Rattle.shapes.proofs.packed.paths.Statement.{statement}
 use Rattle.shapes.proofs.packed.paths.Tie as tie
 
 -- the arm of number i
-here : {s : ℕ} (i : ℕ) → s ≡ i → below localSpan (rowOf groupLimit i) ≡ below localSpan (rowOf groupLimit s)
-here i e = ap (λ j. below localSpan (rowOf groupLimit j)) (sym e)
+here : {s : ℕ} (i : ℕ) → s ≡ i → (below localSpan (rowOf groupLimit i) ≡ below localSpan (rowOf groupLimit s)) × (below localSpan (climbsOut groupLimit i) ≡ below localSpan (climbsOut groupLimit s))
+here i e = (ap (λ j. below localSpan (rowOf groupLimit j)) (sym e), ap (λ j. below localSpan (climbsOut groupLimit j)) (sym e))
 
 pub paths-spec : {M : Type 1} → statement M
-unfolding rowOf reached parentList up parent entry bind each pathRow pathRows
+unfolding rowOf reached localDepth climbsOut parentList up climbWithin depth parent entry bind Option·elim each pathRow fieldRow fieldRows fieldOuts
 paths-spec =
     tie.close
     (tie.spec
@@ -219,4 +219,7 @@ paths-spec =
     (λ c. here 194 (c .match .keys195))
     (λ c. here 195 (c .match .keys196))
     (λ c. here 196 (c .match .keys197))
-    (λ c. let s = c .before .args .shape in sym (each-same localSpan 0 (rowOf groupLimit s) _ (no-shape groupLimit s (past shapeCount s (c .match .rest))))))
+    (λ c.
+    let s = c .before .args .shape in
+    let none = past shapeCount s (c .match .rest) in
+    (sym (each-same localSpan 0 (rowOf groupLimit s) _ (no-shape groupLimit s none)), sym (each-same localSpan 0 (climbsOut groupLimit s) _ (no-out groupLimit s none)))))
