@@ -11,6 +11,8 @@ use base::limits::GROUP_LIMIT;
 use base::limits::LOCAL_NUMBERS;
 use base::limits::LOCAL_SPAN;
 use base::limits::NO_LOCAL;
+use packed::OUT_SPAN;
+use packed::PATH_SPAN;
 use packed::byte;
 use packed::climbs_along;
 use packed::field;
@@ -78,7 +80,7 @@ impl Climbs {
         if self.out() == 0 {
             return NO_LOCAL;
         }
-        let path = ((self.0 / 8) % 64) as u8;
+        let path = ((self.0 / OUT_SPAN) % PATH_SPAN) as u8;
         byte(climbs_along(path), climbs)
     }
 
@@ -86,6 +88,6 @@ impl Climbs {
     pub fn out(self) -> u32
         ensures { λ r. ⌜ r ≡ outIn (self .0) ⌝ }
     {
-        self.0 % 8
+        self.0 % OUT_SPAN
     }
 }

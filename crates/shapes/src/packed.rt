@@ -7,6 +7,15 @@ ghost use Rattle.base.specs.Lists.{below};
 ghost use Rattle.shapes.specs.Climbs.{rowOf, climbsOut};
 ghost use Rattle.shapes.specs.Packed.{byte, field, pathRow, fieldRows, fieldOuts};
 
+// A field of a shape's word is three octal digits: the lowest has the climbs that lead out of the group, and the two above it the path.
+pub(crate) const OUT_SPAN: u32 = 8;
+
+pub(crate) const PATH_SPAN: u32 = 64;
+
+const FIELD_SPAN: u64 = 512;
+
+const FIELD_BITS: u32 = 9;
+
 // The byte of a word at a place, the lowest first.
 pub(crate) fn byte(word: u64, place: u32) -> u8
     requires { ⌜ place < 8 ⌝ }
@@ -20,7 +29,7 @@ pub(crate) fn field(word: u64, local: u32) -> u32
     requires { ⌜ local < localSpan ⌝ }
     ensures { λ r. ⌜ r ≡ field word local ⌝ }
 {
-    ((word >> (9 * local)) % 512) as u32
+    ((word >> (FIELD_BITS * local)) % FIELD_SPAN) as u32
 }
 
 // The climbs along a path: a byte for each of the climbs 0 to 6, the first lowest, with the local number reached. A path has a bit for each of the local numbers 1 to 6
@@ -97,8 +106,8 @@ pub(crate) fn climbs_along(path: u8) -> u64
     }
 }
 
-// The word of a shape: three octal digits for each local number, the first lowest. Two are the path up to the root, and the third has the climbs that lead out of the group;
-// 0 where the shape has no such local number. There are 197 shapes; any other number has none.
+// The word of a shape: a field for each local number, the first lowest, with the path up to the root; 0 where the shape has no such local number. There are 197 shapes; any
+// other number has none.
 pub(crate) fn paths(shape: u32) -> u64
     ensures rows { λ r. ⌜ fieldRows r ≡ below localSpan (rowOf groupLimit shape) ⌝ }
     ensures outs { λ r. ⌜ fieldOuts r ≡ below localSpan (climbsOut groupLimit shape) ⌝ }
