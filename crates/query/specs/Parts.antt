@@ -44,11 +44,11 @@ abbrev pub pickAnswer : Bool → Answer → Answer → Answer
 pickAnswer true a b = a
 pickAnswer false a b = b
 
--- an entry with local number `local` in a group of shape `shape`, and the row of its climbs
-pub record InGroup (t : List ℕ) (n group shape local row : ℕ) : Type 0 where
+-- an entry with local number `local` in a group of shape `shape`, and its field of the shape's word
+pub record InGroup (t : List ℕ) (n group shape local field : ℕ) : Type 0 where
   pub sized : Sized t n
   pub group-in : group < n
-  pub packs : Packs shape local row
+  pub packs : Packs shape local field
   pub local-in : reached groupLimit shape local 0 ≡ none → ⊥
 
 -- step 1's tests of a count n on a table of `len` words: n where it passes, 0 where the table is broken
@@ -81,7 +81,7 @@ finding len v next = opened len (λ n. ifLe n v (done (unknown v)) (read (depthC
 pub record FoundBy (t : List ℕ) (v : ℕ) (e : Found) (words : List ℕ) : Type 0 where
   pub room : (e .n ≡ 0 → ⊥) → Sized t (e .n)
   pub known : (e .n ≡ 0 → ⊥) → v < e .n
-  pub low : (e .n ≡ 0 → ⊥) → e .depth < e .n
+  pub depth-in : (e .n ≡ 0 → ⊥) → e .depth < e .n
   pub goes : (e .n ≡ 0 → ⊥) → (next : ℕ → ℕ → Reading) → answerFrom t (listed (0 ∷ depthCell (e .n) v ∷ [])) (next (e .n) (e .depth)) ≡ answerFrom t (listed []) (finding (length t) v next)
   pub ended : e .n ≡ 0 → (next : ℕ → ℕ → Reading) → words ≡ answerWords (answerFrom t (listed []) (finding (length t) v next))
 

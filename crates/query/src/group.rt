@@ -50,7 +50,7 @@ pub(crate) fn from_group(
     after_shape(table, n, d, climbs, group, local, shape, more, words);
 }
 
-// The shape, which is one of a group that has the local number: climbs lead out from there, and from none of a number of no shape.
+// The shape, which is one that has the local number: its climbs out are 0 where it has not, or where the number is that of no shape.
 fn after_shape(
     table: &[u32],
     n: u32,
@@ -65,15 +65,26 @@ fn after_shape(
     requires { ⌜ (Sized (now table) n) × (group < n) × (Held 4 cells) × (d < n) ⌝ }
     ensures { λ _. ⌜ now (words .exit) ≡ answerWords (answerFrom (now (table .entry)) cells (afterShape n d (d + climbs) group local shape)) ⌝ }
 {
-    let row = climbs_of(shape, local);
-    if row.out() == 0 {
+    let field = climbs_of(shape, local);
+    if field.out() == 0 {
         end(BROKEN, 0, cells, words);
         return;
     }
-    in_group(table, n, d, climbs, group, shape, local, row, cells, words);
+    in_group(
+        table,
+        n,
+        d,
+        climbs,
+        group,
+        shape,
+        local,
+        field,
+        cells,
+        words,
+    );
 }
 
-// Within the group where the climbs asked end there, else from the group's parent, which so many climbs reach as lead out.
+// Within the group where fewer climbs are asked than lead out of it, else from the group's parent, which just so many reach.
 fn in_group(
     table: &[u32],
     n: u32,
@@ -82,14 +93,14 @@ fn in_group(
     group: u32,
     shape: u32,
     local: u32,
-    row: Climbs,
+    field: Climbs,
     cells: Cells,
     words: &mut [u32; ANSWER_WORDS],
 )
-    requires { ⌜ (InGroup (now table) n group shape local (row .0)) × (Held 4 cells) × (d < n) ⌝ }
+    requires { ⌜ (InGroup (now table) n group shape local (field .0)) × (Held 4 cells) × (d < n) ⌝ }
     ensures { λ _. ⌜ now (words .exit) ≡ answerWords (answerFrom (now (table .entry)) cells (inGroup n d (d + climbs) group local shape)) ⌝ }
 {
-    let out = row.out();
+    let out = field.out();
     if out <= climbs {
         let got = read(
             table,
@@ -103,7 +114,7 @@ fn in_group(
         return;
     }
     let got = read(table, HEADER_CELLS + GROUPS * n, GROUP_WORDS * group, cells);
-    let to = row.reached(climbs);
+    let to = field.reached(climbs);
     let position = Position(got.word);
     let more = got.cells;
     after_position(table, n, to as u32, position, more, words);

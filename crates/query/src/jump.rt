@@ -36,8 +36,8 @@ pub(crate) fn from_jump(table: &[u32], n: u32, d: u32, jump: u32) -> Answer
     after_jump_depth(table, n, d, jump, depth, more)
 }
 
-// The jump entry's depth, below d and less than n. The second is tested of the climbs: two plain tests of one word the compiler joins into one branch, on which the
-// exponent then waits.
+// The jump entry's depth, which is more than d and less than n; d is less than n, as v's depth is. The second test is made by the climbs: the compiler would join two plain
+// tests of one word into one branch, and the exponent would wait for it.
 fn after_jump_depth(table: &[u32], n: u32, d: u32, jump: u32, depth: u32, cells: Cells) -> Answer
     requires { ⌜ (Sized (now table) n) × (jump < jumpRoom n) × (d < n) ⌝ }
     ensures { λ r. ⌜ r ≡ answerFrom (now (table .entry)) cells (afterJumpDepth n d jump depth) ⌝ }

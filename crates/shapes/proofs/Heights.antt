@@ -1,8 +1,8 @@
--- A shape's own parent list forms one tree, so a local number has climbs up to its depth in the shape and none past it. Assumes nothing.
+-- A shape's own parent list forms one tree, and a climb in it lowers the local number: so a row of the shape table has all that climbs reach. Assumes nothing.
 use mathlib.Core.Path.{_≡_, refl, sym, ap, _∙_}
 use mathlib.Core.Logic.{_⊎_, inl, inr}
 use mathlib.Core.List.{List, [], _∷_}
-use mathlib.Core.Option.{Option, none, some, bind, bind-eq-some-iff, Option·elim, Option·none-ne-some}
+use mathlib.Core.Option.{Option, none, some, bind-eq-some-iff, Option·elim}
 use Prim.Native.Nat.{ℕ, zero, suc, _+_, _≤_, _<_}
 use native.Mathlib.Omega.{arith}
 use native.Mathlib.Nat.{not-suc-le-zero}
@@ -11,11 +11,10 @@ use lib.ListN.{length, getD, getElem?, drop, List·getD-eq-default}
 use Rattle.base.specs.Lists.{below}
 use Rattle.base.proofs.Lists.{below-at, each-length, each-same}
 use Rattle.base.specs.Limits.{topMark}
-use Rattle.tree.specs.Parents.{word, depth}
+use Rattle.tree.specs.Parents.{word}
 use Rattle.tree.specs.Parents.{up as climbUp}
 use Rattle.tree.specs.Faults.{Tree}
 use Rattle.tree.proofs.Climbs.{parent-in, parent-some, up-step, up-first, up-from, entry-in, entry-some}
-use Rattle.tree.proofs.Depths.{up-some, up-none}
 use Rattle.shapes.specs.Walks.{down, up, Walk, shapes}
 use Rattle.shapes.specs.Climbs.{parents, parentList, reached, localDepth, climbsOut, mark, rowOf}
 use Rattle.shapes.proofs.Sizes.{shape-fits}
@@ -77,34 +76,6 @@ module _ (w : Walk) where
     others = λ v h n. omega (arith, word-low v h n);
     climbs = λ v h. to-root (suc v) v (omega arith) h;
   }
-
--- for a limit up to 255, and a local number l of shape s
-module _ (L : ℕ) (small : L ≤ 255) (s l : ℕ) where
-  shape-of : (w : Walk) → getElem? (shapes L) s ≡ some w → (k : ℕ) → (reached L s l k ≡ climbUp (parentList w) k l) × (localDepth L s l ≡ depth (parentList w) l)
-  unfolding reached localDepth bind Option·elim
-  shape-of w e k = (rw e, rw e)
-
-  -- what is reached by no climb is the number itself, below the limit
-  pub local-in : (j : ℕ) → reached L s l 0 ≡ some j → (w : Walk) × (getElem? (shapes L) s ≡ some w) × (l < length (parentList w)) × (j ≡ l)
-  unfolding reached climbUp
-  local-in j e =
-      let t = bind-eq-some-iff (getElem? (shapes L) s) (λ w. climbUp (parentList w) 0 l) .0 e in
-      let q = entry-some (parentList (t .0)) l j (t .2) in
-      (t .0, t .1, omega (arith, q .0, q .1), sym (q .0))
-
-  module _ (j : ℕ) (e : reached L s l 0 ≡ some j) where
-    pub reached-some : (k : ℕ) → k ≤ localDepth L s l → (i : ℕ) × (reached L s l k ≡ some i)
-    reached-some k h =
-        let (w, q, b, z) = local-in j e in
-        let o = shape-of w q k in
-        let r = up-some (parentList w) (omega (arith, shape-fits L s w q)) (shape-tree w) k l b (omega (arith, o .1)) in
-        (r .0, o .0 ∙ r .1)
-
-    pub reached-none : (k : ℕ) → localDepth L s l < k → reached L s l k ≡ none
-    reached-none k h =
-        let (w, q, b, z) = local-in j e in
-        let o = shape-of w q k in
-        o .0 ∙ up-none (parentList w) (omega (arith, shape-fits L s w q)) (shape-tree w) k l (omega (arith, o .1))
 
 -- a climb lowers the local number
 climb-low : (w : Walk) → length (parentList w) ≤ topMark → (k l i : ℕ) → climbUp (parentList w) k l ≡ some i → k + i ≤ l

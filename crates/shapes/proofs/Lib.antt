@@ -2,7 +2,7 @@
 pub mod Sizes
 pub mod Rule
 pub mod Heights
-pub mod PackedRows
+pub mod Fields
 pub mod Sevens
 pub mod Turns
 pub mod Depths

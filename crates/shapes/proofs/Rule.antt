@@ -29,7 +29,7 @@ says (some j) h = (refl, h j refl)
 pub rule : (L : ℕ) → L ≤ 255 → (s : ℕ) → Rule L s (rowsOf L s)
 rule L b s l k hl hk = rw (cell-is L s l k hl hk) (says (reached L s l k) (λ j e. omega (arith, reached-below L s l k j e)))
 
--- a number that is no shape reaches nothing, has only 255, and nothing leads out
+-- from a number that is no shape nothing is reached, its cells are 255, and its climbs out are 0
 pub no-reach : (L s : ℕ) → length (shapes L) ≤ s → (l k : ℕ) → reached L s l k ≡ none
 unfolding reached bind
 no-reach L s h l k = ap (λ (o : Option Walk). bind o (λ w. up (parentList w) k l)) (at-past (shapes L) s h)

@@ -1,4 +1,4 @@
--- How the shape table is packed: a shape as one word, with the path from each local number up to the root, and the climbs along a path as one word. Assumes nothing.
+-- How the shape table is packed: a shape as one word, with the path from each local number up to the root and the climbs out of the group, and the climbs along a path as one word. Assumes nothing.
 use mathlib.Core.Path.{_≡_}
 use mathlib.Core.List.{List, [], _∷_}
 use mathlib.Core.Bool.{cond}
@@ -28,8 +28,8 @@ filled (suc n) (x ∷ l) = x ∷ filled n l
 unfoldable pub pathRow : ℕ → List ℕ
 pathRow path = cond (ltb path 64) (filled groupLimit (upward 6 path)) (filled groupLimit [])
 
--- the field of a shape's word for local number l: nine bits, the lowest for 0. Three of them have the climbs that lead out of the group, 0 where the shape
--- has no such local number; the path stands above those
+-- the field of a shape's word for local number l, nine bits each, the lowest nine for 0: the lowest three say how many climbs lead out of the group, 0 where the shape
+-- has no such local number; the six above them are the path
 abbrev pub field : ℕ → ℕ → ℕ
 field word l = word / 2 ^ (9 * l) % 512
 

@@ -16,7 +16,7 @@ use packed::PATH_SPAN;
 use packed::byte;
 use packed::climbs_along;
 use packed::field;
-use packed::paths;
+use packed::fields;
 
 // A shape's part of the shape table: a row of seven climbs (0 to 6) for each of seven local numbers, 255 where there is none. There are 197 shapes; any other
 // number has only 255.
@@ -54,15 +54,15 @@ pub fn row(shape: u32, local: u32) -> [u8; LOCAL_NUMBERS]
 // The field of one local number in its shape's word: a lookup takes one cell of the row by it without building the row.
 pub struct Climbs(pub u32);
 
-// The field of one local number of a shape, for every number of either. A word that is 0 is told apart: so the compiler goes by its range test of the shape alone where
-// there is no such shape.
+// The field of one local number of a shape, for every number of either. A word of 0 is answered at once: where there is no such shape, the range test that the compiler
+// makes for the match is then the only one.
 pub fn climbs_of(shape: u32, local: u32) -> Climbs
     ensures { λ r. ⌜ Packs shape local (r .0) ⌝ }
 {
     if LOCAL_SPAN <= local {
         return Climbs(0);
     }
-    let word = paths(shape);
+    let word = fields(shape);
     if word == 0 {
         return Climbs(0);
     }
@@ -84,7 +84,7 @@ impl Climbs {
         byte(climbs_along(path), climbs)
     }
 
-    // The climbs that lead out of the group, 0 where the shape has no such local number.
+    // How many climbs lead out of the group, 0 where the shape has no such local number.
     pub fn out(self) -> u32
         ensures { λ r. ⌜ r ≡ outIn (self .0) ⌝ }
     {

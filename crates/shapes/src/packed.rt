@@ -1,5 +1,5 @@
-// The shape table in packed form: for each local number of a shape the path up to the root, and the climbs along each path. A match with a literal in each arm is
-// read from a table by its number, without a jump; a constant array is built anew in each call that indexes it.
+// The shape table in packed form: for each local number of a shape the path up to the root and how many climbs lead out of the group, and the climbs along each path. A
+// match with a literal in each arm is read from a table by its number, without a jump; a constant array is built anew in each call that indexes it.
 ghost use mathlib.Core.Path.{_≡_};
 ghost use Prim.Native.Nat.{_<_};
 ghost use Rattle.base.specs.Limits.{groupLimit, localSpan};
@@ -7,7 +7,8 @@ ghost use Rattle.base.specs.Lists.{below};
 ghost use Rattle.shapes.specs.Climbs.{rowOf, climbsOut};
 ghost use Rattle.shapes.specs.Packed.{byte, field, pathRow, fieldRows, fieldOuts};
 
-// A field of a shape's word is three octal digits: the lowest has the climbs that lead out of the group, and the two above it the path.
+// A field of a shape's word is three octal digits: the lowest says how many climbs lead out of the group, and the two above it are the path. Seven fields take 63 bits; of an
+// eighth the word has its last bit, which is 0.
 pub(crate) const OUT_SPAN: u32 = 8;
 
 pub(crate) const PATH_SPAN: u32 = 64;
@@ -106,9 +107,8 @@ pub(crate) fn climbs_along(path: u8) -> u64
     }
 }
 
-// The word of a shape: a field for each local number, the first lowest, with the path up to the root; 0 where the shape has no such local number. There are 197 shapes; any
-// other number has none.
-pub(crate) fn paths(shape: u32) -> u64
+// The word of a shape: a field for each local number, the first lowest; 0 where the shape has no such local number. There are 197 shapes; any other number has the word 0.
+pub(crate) fn fields(shape: u32) -> u64
     ensures rows { λ r. ⌜ fieldRows r ≡ below localSpan (rowOf groupLimit shape) ⌝ }
     ensures outs { λ r. ⌜ fieldOuts r ≡ below localSpan (climbsOut groupLimit shape) ⌝ }
 {

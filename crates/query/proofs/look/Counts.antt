@@ -9,7 +9,7 @@ use lib.Dec.{lit≤}
 use borrow.Author.Tests.{eq-eqb, ne-eqb, lt-ltb, le-ltb}
 use Rattle.base.specs.Limits.{Sized, mostEntries, headerMark, entriesOf, tableWords, depthCell}
 use Rattle.base.specs.Numbers.{unknown}
-use Rattle.answers.specs.Reading.{Reading, done, read, ifLe, ifLt, ifEq, wordAt}
+use Rattle.answers.specs.Reading.{Reading, done, read, ifLe, wordAt}
 use Rattle.answers.specs.Answers.{pushed, pushedAll, listed, answerFrom, answerWords}
 use Rattle.answers.specs.Steps.{broken, afterCount, opened}
 use Rattle.answers.specs.declared.Answer.{Answer}
@@ -142,7 +142,7 @@ opened-by t = go (decLt (length t) 4)
 
 -- a lookup that has ended, whatever it would go on with
 pub has-ended : (t : List ℕ) (v : ℕ) (words : List ℕ) → ((next : ℕ → ℕ → Reading) → words ≡ answerWords (answerFrom t (listed []) (finding (length t) v next))) → FoundBy t v (record { n = 0; depth = 0 }) words
-has-ended t v words h = record { room = λ z. absurd (z refl); known = λ z. absurd (z refl); low = λ z. absurd (z refl); goes = λ z. absurd (z refl); ended = λ z. h }
+has-ended t v words h = record { room = λ z. absurd (z refl); known = λ z. absurd (z refl); depth-in = λ z. absurd (z refl); goes = λ z. absurd (z refl); ended = λ z. h }
 
 -- a program that goes on with v, from step 1
 pub found-from : (t : List ℕ) (v : ℕ) (o : Count) → OpenedBy t o → (o .n ≡ 0 → ⊥) → (next : ℕ → ℕ → Reading) (r : Answer)

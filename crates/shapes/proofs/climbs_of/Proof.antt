@@ -6,10 +6,10 @@ use native.Mathlib.Omega.{arith}
 use lib.Pow.{pow-pos}
 use borrow.Author.Needs.{needs}
 use Rattle.base.specs.Limits.{groupLimit}
-use Rattle.base.specs.Lists.{each, below}
+use Rattle.base.specs.Lists.{each}
 use Rattle.shapes.specs.Packed.{field, fieldRow}
 use Rattle.shapes.proofs.Heights.{row-past, out-past}
-use Rattle.shapes.proofs.PackedRows.{packs, field-packs}
+use Rattle.shapes.proofs.Fields.{packs, field-packs}
 use Rattle.shapes.proofs.climbs_of.Statement.{statement}
 use Rattle.shapes.proofs.climbs_of.Tie as tie
 
@@ -23,7 +23,7 @@ past-local c = packs _ _ 0 (sym (row-past groupLimit (omega arith) _ _ (omega ar
 
 no-word : tie.Need-returns-2
 no-word c =
-    let word = c .before .paths in
+    let word = c .before .fields in
     field-packs _ _ _ 0 (word .ensures .0) (word .ensures .1) (omega arith) (no-field _ _ (c .if2 .taken))
 
 pub climbs-of-spec : {M : Type 1} → statement M
@@ -34,4 +34,4 @@ climbs-of-spec =
     (λ c κs. search needs)
     no-word
     (λ c κs. search needs)
-    (λ c. let word = c .before .before .paths .ensures in field-packs _ _ _ _ (word .0) (word .1) (omega arith) (c .field .ensures)))
+    (λ c. let word = c .before .before .fields .ensures in field-packs _ _ _ _ (word .0) (word .1) (omega arith) (c .field .ensures)))

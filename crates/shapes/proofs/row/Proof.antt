@@ -6,7 +6,7 @@ use Rattle.shapes.proofs.Sevens.{seven}
 use Rattle.shapes.proofs.row.Statement.{statement}
 use Rattle.shapes.proofs.row.Tie as tie
 
--- each cell is the packed row's, and so the table's
+-- each cell is the field's, and so the table's
 returns : tie.Need-returns
 unfolding rowOf
 returns c =

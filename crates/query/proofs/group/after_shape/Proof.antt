@@ -9,7 +9,7 @@ use borrow.Author.Needs.{needs}
 use Rattle.base.specs.Limits.{groupLimit, shapeCount}
 use Rattle.shapes.specs.Climbs.{reached}
 use Rattle.shapes.proofs.Rule.{known-shape}
-use Rattle.shapes.proofs.PackedRows.{outside, inside, there}
+use Rattle.shapes.proofs.Fields.{outside, inside, there}
 use Rattle.answers.specs.Answers.{answerFrom, answerWords}
 use Rattle.answers.specs.Steps.{broken, afterShape}
 use Rattle.answers.specs.declared.Answer.{Answer}
@@ -38,19 +38,19 @@ after-shape-spec =
     (λ c.
     let test = c .before .before in
     let out = test .before in
-    let row = out .before in
-    let none = outside _ _ _ (row .climbs-of .ensures) _ (out .out .ensures) (test .if1 .taken) in
-    c .end .ensures ∙ ap answerWords (not-there _ _ _ _ _ _ _ _ _ none (search steps)))
+    let field = out .before in
+    let absent = outside _ _ _ (field .climbs-of .ensures) _ (out .out .ensures) (test .if1 .taken) in
+    c .end .ensures ∙ ap answerWords (not-there _ _ _ _ _ _ _ _ _ absent (search steps)))
     (λ c κs.
     let test = c .before in
     let out = test .before in
-    let row = out .before in
-    let start = row .before .before in (
+    let field = out .before in
+    let start = field .before .before in (
       record {
         sized = start .pre .0;
         group-in = start .pre .1;
-        packs = row .climbs-of .ensures;
-        local-in = inside _ _ _ (row .climbs-of .ensures) _ (out .out .ensures) (test .if1 .left);
+        packs = field .climbs-of .ensures;
+        local-in = inside _ _ _ (field .climbs-of .ensures) _ (out .out .ensures) (test .if1 .left);
       },
       start .pre .2,
       start .pre .3,
@@ -58,8 +58,8 @@ after-shape-spec =
     (λ c.
     let test = c .before .before in
     let out = test .before in
-    let row = out .before in
-    let args = row .before .before .args in
-    let in-shape = inside (args .shape) (args .local) _ (row .climbs-of .ensures) _ (out .out .ensures) (test .if1 .left) in
+    let field = out .before in
+    let args = field .before .before .args in
+    let in-shape = inside (args .shape) (args .local) _ (field .climbs-of .ensures) _ (out .out .ensures) (test .if1 .left) in
     let j = there (args .shape) (args .local) in-shape in
     c .in-group .ensures ∙ ap answerWords (le-no _ _ _ _ _ _ _ (known-shape (args .shape) (args .local) 0 in-shape) (search (steps, j .1)))))

@@ -6,7 +6,7 @@ use lib.Dec.{lit<}
 use borrow.Author.Needs.{needs}
 use Rattle.base.specs.Limits.{groupLimit}
 use Rattle.shapes.specs.Climbs.{localDepth}
-use Rattle.shapes.proofs.PackedRows.{out-depth}
+use Rattle.shapes.proofs.Fields.{out-depth}
 use Rattle.answers.specs.Answers.{answerWords}
 use Rattle.answers.specs.Steps.{inGroup}
 use Rattle.query.proofs.Programs.{steps, le-yes, le-no, got-held}

@@ -15,15 +15,15 @@ use Rattle.query.proofs.Programs.{steps, le-yes, le-no, lt-yes, lt-no, 
 use Rattle.query.proofs.jump.after_jump_depth.Statement.{statement}
 use Rattle.query.proofs.jump.after_jump_depth.Tie as tie
 
--- a jump entry that is not below depth d is refused by one of three tests
-not-below : (r : Answer) (t : List ℕ) (cs : Cells) (n d jump depth : ℕ) → depth ≤ d → r ≡ answerFrom t cs broken → r ≡ answerFrom t cs (afterJumpDepth n d jump depth)
+-- a jump entry that is not deeper than d is refused by one of the definition's three tests
+not-deeper : (r : Answer) (t : List ℕ) (cs : Cells) (n d jump depth : ℕ) → depth ≤ d → r ≡ answerFrom t cs broken → r ≡ answerFrom t cs (afterJumpDepth n d jump depth)
 unfolding afterJumpDepth
-not-below r t cs n d jump depth h e = many (decLe n depth) (decLt depth d)
+not-deeper r t cs n d jump depth h e = go (decLe n depth) (decLt depth d)
   where
-    many : Dec (n ≤ depth) → Dec (depth < d) → r ≡ answerFrom t cs (afterJumpDepth n d jump depth)
-    many (yes m) _ = le-yes _ _ _ _ _ _ _ m e
-    many (no m) (yes a) = le-no _ _ _ _ _ _ _ (omega arith) (lt-yes _ _ _ _ _ _ _ a e)
-    many (no m) (no a) = le-no _ _ _ _ _ _ _ (omega arith) (lt-no _ _ _ _ _ _ _ (omega arith) (is-none _ _ _ _ _ _ (exponent-none _ (omega arith) .1 (omega arith)) e))
+    go : Dec (n ≤ depth) → Dec (depth < d) → r ≡ answerFrom t cs (afterJumpDepth n d jump depth)
+    go (yes m) _ = le-yes _ _ _ _ _ _ _ m e
+    go (no m) (yes a) = le-no _ _ _ _ _ _ _ (omega arith) (lt-yes _ _ _ _ _ _ _ a e)
+    go (no m) (no a) = le-no _ _ _ _ _ _ _ (omega arith) (lt-no _ _ _ _ _ _ _ (omega arith) (is-none _ _ _ _ _ _ (exponent-none _ (omega arith) .1 (omega arith)) e))
 
 read-ancestor-requires : tie.Need-read-ancestor-requires
 read-ancestor-requires c κs =
@@ -51,7 +51,7 @@ after-jump-depth-spec =
     tie.close
     (tie.spec
     (λ c κs. search needs)
-    (λ c. not-below _ _ _ _ _ _ _ (c .before .if1 .taken) (search steps))
+    (λ c. not-deeper _ _ _ _ _ _ _ (c .before .if1 .taken) (search steps))
     (λ c. search needs)
     (λ c. search needs)
     (λ c. search needs)

@@ -39,7 +39,7 @@ returns-4 c =
     record {
       room = λ z. count .ensures .room left;
       known = λ z. known .if2 .left;
-      low = λ z. c .if3 .left;
+      depth-in = λ z. c .if3 .left;
       goes = λ z next. found-from _ _ (count .result) (count .ensures) left next _ (rw (← cells) (search steps));
       ended = λ z. absurd (left z);
     }

@@ -41,5 +41,5 @@ rating-words-spec =
     let test = c .before .before .before .before .before in
     let find = test .before .before .find in
     let room = find .ensures .room (test .if1 .left) in
-    (room, omega (arith, find .ensures .known (test .if1 .left)), omega (arith, find .ensures .low (test .if1 .left))))
+    (room, omega (arith, find .ensures .known (test .if1 .left)), omega (arith, find .ensures .depth-in (test .if1 .left))))
     returns-3)

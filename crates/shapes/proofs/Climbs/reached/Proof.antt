@@ -2,7 +2,7 @@
 use mathlib.Core.Path.{sym, _∙_}
 use native.Mathlib.Omega.{arith}
 use borrow.Author.Needs.{needs}
-use Rattle.shapes.proofs.PackedRows.{past-row, no-row, own-row}
+use Rattle.shapes.proofs.Fields.{past-row, no-row, own-row}
 use Rattle.shapes.proofs.Climbs.reached.Statement.{statement}
 use Rattle.shapes.proofs.Climbs.reached.Tie as tie
 

@@ -1,11 +1,10 @@
 -- `packed::climbs_along` meets its contract: each arm has the row along its path. Assumes nothing.
 use mathlib.Core.Path.{_≡_, sym, ap}
 use Prim.Native.Nat.{ℕ}
-use Rattle.base.specs.Limits.{groupLimit}
-use Rattle.base.specs.Lists.{each, below}
+use Rattle.base.specs.Lists.{each}
 use Rattle.base.proofs.Arms.{past}
 use Rattle.shapes.specs.Packed.{pathRow}
-use Rattle.shapes.proofs.PackedRows.{no-path}
+use Rattle.shapes.proofs.Fields.{no-path}
 use Rattle.shapes.proofs.packed.climbs_along.Statement.{statement}
 use Rattle.shapes.proofs.packed.climbs_along.Tie as tie
 

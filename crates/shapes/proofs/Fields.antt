@@ -20,7 +20,7 @@ pub no-path : (p : ℕ) → 64 ≤ p → pathRow p ≡ filled groupLimit []
 unfolding pathRow
 no-path p h = ap (λ b. cond b (filled groupLimit (upward 6 p)) (filled groupLimit [])) (le-ltb _ _ h)
 
--- a local number that is in its shape is reached by no climb
+-- a local number that is in its shape is reached by 0 climbs
 pub there : (s l : ℕ) → (reached groupLimit s l 0 ≡ none → ⊥) → (j : ℕ) × (reached groupLimit s l 0 ≡ some j)
 there s l inside = go (reached groupLimit s l 0) refl
   where
@@ -41,7 +41,7 @@ field-packs s l word f rows outs h q =
     (ap fieldRow q ∙ sym (below-at localSpan (λ k. fieldRow (field word k)) [] l h) ∙ ap (λ r. getD r l []) rows ∙ below-at localSpan (rowOf groupLimit s) [] l h)
     (ap outIn q ∙ sym (below-at localSpan (λ k. outIn (field word k)) 0 l h) ∙ ap (λ r. getD r l 0) outs ∙ below-at localSpan (climbsOut groupLimit s) 0 l h)
 
--- as many cells as there are climbs
+-- a list filled up to n has n cells
 filled-length : (n : ℕ) (l : List ℕ) → length (filled n l) ≡ n
 filled-length zero l = refl
 filled-length (suc n) [] = ap suc (filled-length n [])
@@ -75,7 +75,7 @@ module _ (f k : ℕ) where
   unfolding cellIn fieldRow
   own-row word z h e = rw (ne-eqb (outIn f) 0 z) (sym (below-at groupLimit (byte word) 255 k h) ∙ ap (λ r. getD r k 255) e)
 
--- the test that a lookup makes of a field
+-- what the climbs out of a field tell
 module _ (s l f : ℕ) (p : Packs s l f) where
   pub outside : (c : ℕ) → c ≡ outIn f → c ≡ 0 → reached groupLimit s l 0 ≡ none
   unfolding climbsOut Option·elim

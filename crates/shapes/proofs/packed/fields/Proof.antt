@@ -1,4 +1,4 @@
--- `packed::paths` meets its contract: each arm's word has the rows, and the climbs out, that the table computes to at its number. Assumes nothing.
+-- `packed::fields` meets its contract: each arm's word has the rows, and the climbs out, that the table computes to at its number. Assumes nothing.
 use mathlib.Core.Path.{_≡_, sym, ap}
 use mathlib.Core.Option.{bind, Option·elim}
 use Prim.Native.Nat.{ℕ}
@@ -10,16 +10,16 @@ use Rattle.tree.specs.Parents.{entry, parent, up, climbWithin, depth}
 use Rattle.shapes.specs.Climbs.{parentList, reached, localDepth, climbsOut, rowOf}
 use Rattle.shapes.specs.Packed.{pathRow, fieldRow, fieldRows, fieldOuts}
 use Rattle.shapes.proofs.Rule.{no-shape, no-out}
-use Rattle.shapes.proofs.packed.paths.Statement.{statement}
-use Rattle.shapes.proofs.packed.paths.Tie as tie
+use Rattle.shapes.proofs.packed.fields.Statement.{statement}
+use Rattle.shapes.proofs.packed.fields.Tie as tie
 
 -- the arm of number i
 here : {s : ℕ} (i : ℕ) → s ≡ i → (below localSpan (rowOf groupLimit i) ≡ below localSpan (rowOf groupLimit s)) × (below localSpan (climbsOut groupLimit i) ≡ below localSpan (climbsOut groupLimit s))
 here i e = (ap (λ j. below localSpan (rowOf groupLimit j)) (sym e), ap (λ j. below localSpan (climbsOut groupLimit j)) (sym e))
 
-pub paths-spec : {M : Type 1} → statement M
+pub fields-spec : {M : Type 1} → statement M
 unfolding rowOf reached localDepth climbsOut parentList up climbWithin depth parent entry bind Option·elim each pathRow fieldRow fieldRows fieldOuts
-paths-spec =
+fields-spec =
     tie.close
     (tie.spec
     (λ c. here 0 (c .match .keys1))
