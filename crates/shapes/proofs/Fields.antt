@@ -13,7 +13,7 @@ use Rattle.base.specs.Lists.{below}
 use Rattle.base.proofs.Lists.{below-at}
 use Rattle.shapes.specs.Climbs.{reached, localDepth, climbsOut, rowOf}
 use Rattle.shapes.specs.Packed.{byte, field, outIn, upward, filled, pathRow, fieldRow, cellIn, fieldRows, fieldOuts, Packs}
-use Rattle.shapes.proofs.Heights.{row-at}
+use Rattle.shapes.proofs.Heights.{row-at, none-out}
 
 -- 64 and more are no path
 pub no-path : (p : ℕ) → 64 ≤ p → pathRow p ≡ filled groupLimit []
@@ -86,8 +86,7 @@ module _ (s l f : ℕ) (p : Packs s l f) where
       go (some j) q e = absurd (omega (arith, e))
 
   pub inside : (c : ℕ) → c ≡ outIn f → (c ≡ 0 → ⊥) → reached groupLimit s l 0 ≡ none → ⊥
-  unfolding climbsOut Option·elim
-  inside c e z q = z (e ∙ p .out ∙ ap (λ o. Option·elim o 0 (λ j. suc (localDepth groupLimit s l))) q)
+  inside c e z q = z (e ∙ p .out ∙ none-out groupLimit s l q)
 
   pub out-depth : (reached groupLimit s l 0 ≡ none → ⊥) → outIn f ≡ suc (localDepth groupLimit s l)
   unfolding climbsOut Option·elim
