@@ -1,7 +1,7 @@
 -- A question as a reading program: it ends with an outcome, or reads one cell of the table and goes on with the word there. The outcome and
 -- the cells read, on any table, are two functions of the program. Assumes nothing.
 use Rattle.std.specs.Prelude.{◌≡◌, List, [], ◌∷◌, cond, ℕ, zero, suc, get_or, ltb, leb, eqb}
-use Rattle.std.proofs.Math.Option.{Option, Option·elim}
+use Rattle.std.proofs.Math.Option.{Option, Option-elim}
 use Rattle.base.specs.Numbers.{Outcome}
 
 pub data Reading : Type 0 where
@@ -20,7 +20,7 @@ if_eq a b p q = cond (eqb a b) p q
 
 -- a program where there is no number, and one for a number that there is
 unfoldable pub if_none : Option ℕ → Reading → (ℕ → Reading) → Reading
-if_none o p q = Option·elim o p q
+if_none o p q = Option-elim o p q
 
 -- a program, and then what f makes of its outcome
 unfoldable pub and_then : Reading → (Outcome → Reading) → Reading

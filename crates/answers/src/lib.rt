@@ -1,4 +1,6 @@
 // Answers: the cells read by value, and the answer that carries them.
+#![tactic(auto)]
+
 ghost use Rattle.std.specs.Prelude.{◌≡◌, [], ◌+◌, ◌<◌, set};
 ghost use Rattle.answers.specs.Answers.{pushed, listed, answer_words};
 

@@ -1,1 +1,3 @@
 // The bands of a sheet: definitions and theorems, no functions.
+#![tactic(auto)]
+

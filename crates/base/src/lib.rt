@@ -1,4 +1,6 @@
 // What every crate of the engine rests on: entry numbers and positions, sums and cents, the numbers of the answers, the measures of a table, the ranges of amounts, powers of two.
+#![tactic(auto)]
+
 pub mod amounts;
 pub mod limits;
 pub mod numbers;

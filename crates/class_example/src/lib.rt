@@ -1,4 +1,6 @@
 // The class of one entry, from the parent list: prepares a table and asks it. What it promises follows from the promises of `prepare` and `level` alone.
+#![tactic(auto)]
+
 ghost use Rattle.std.specs.Prelude.{◌≡◌, length};
 ghost use Rattle.table.specs.Preparing.{table_after, space_after};
 ghost use Rattle.base.specs.Numbers.{Says};

@@ -1,1 +1,3 @@
 // The mathematics of the lookup: theorems, no functions.
+#![tactic(auto)]
+

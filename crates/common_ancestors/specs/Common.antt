@@ -1,7 +1,7 @@
 -- What two entries share, on the parent list alone (2026-07): the nearest common ancestor of source document 000, and the climbs between two entries through it.
 -- Assumes nothing.
 use Rattle.std.specs.Prelude.{cond, List, ℕ, ◌+◌, length, leb}
-use Rattle.std.proofs.Math.Option.{Option, Option·elim, map}
+use Rattle.std.proofs.Math.Option.{Option, Option-elim, map}
 use Rattle.base.specs.Lists.{first, has, place}
 use Rattle.base.specs.Numbers.{Outcome, accepted, unknown, broken}
 use Rattle.tree.specs.Parents.{climb}
@@ -31,7 +31,7 @@ both_known n u v o = cond (leb n u) (unknown u) (cond (leb n v) (unknown v) o)
 
 -- what a question about two entries means: what is found. Two entries of one tree share one, so that there 9 does not come
 unfoldable pub of_both : List ℕ → ℕ → ℕ → Option ℕ → Outcome
-of_both ps u v found = both_known (length ps) u v (Option·elim found broken accepted)
+of_both ps u v found = both_known (length ps) u v (Option-elim found broken accepted)
 
 abbrev pub nearest_of : List ℕ → ℕ → ℕ → Outcome
 nearest_of ps u v = of_both ps u v (nearest_common_ancestor ps u v)

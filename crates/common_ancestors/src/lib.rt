@@ -1,4 +1,6 @@
 // The nearest common ancestor of two entries, and the climbs between them through it, on a lent table of any length and contents. Neither lists cells.
+#![tactic(auto)]
+
 mod search;
 mod trial;
 

@@ -1,4 +1,6 @@
 // The counter program: a list and questions from standard input, the class of each on standard output.
+#![tactic(auto)]
+
 ghost use Rattle.counter_stream.specs.Fitness.{lent};
 ghost use Rattle.counter_stream.specs.Pieces.{Buffers};
 

@@ -1,4 +1,6 @@
 // The counter program on a stream of bytes, with lent buffers: from any pieces of its input to its output.
+#![tactic(auto)]
+
 mod phases;
 mod pieces;
 mod whole_lines;

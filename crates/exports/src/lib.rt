@@ -1,5 +1,7 @@
 // The C interface: measures, preparing, the five questions, the nearest common ancestor and the distance, the premium by a list of rates and by a sheet with bands. A slice is
 // a pointer and a length. An answer is written to an array of the caller's: preparing's to two words, a check's to three, a question's to eighteen, with the money beside it.
+#![tactic(auto)]
+
 ghost use Rattle.std.specs.Prelude.{◌≡◌, length};
 ghost use Rattle.base.specs.Limits.{table_words, space_words};
 ghost use Rattle.table.specs.Preparing.{preparing, table_after, space_after};

@@ -1,5 +1,7 @@
 // The counter program's answers to inputs of every form. Standard input holds the inputs, each ended by `;` and a line feed. Each is given in two pieces,
 // and what it prints is written with `;` and a line feed behind it.
+#![tactic(auto)]
+
 ghost use Rattle.std.specs.Prelude.{◌≤◌, length};
 ghost use Rattle.counter_stream.specs.Fitness.{lent};
 ghost use Rattle.counter_stream.specs.Pieces.{Buffers};

@@ -1,6 +1,6 @@
 -- The counter program's text: from the bytes of its input to the bytes of its output. Assumes nothing.
 use Rattle.std.specs.Prelude.{List, [], ◌∷◌, ◌++◌, cond, ℕ, zero, suc, length, eqb, ltb}
-use Rattle.std.proofs.Math.Option.{Option, Option·elim, or_else}
+use Rattle.std.proofs.Math.Option.{Option, Option-elim, or_else}
 use Rattle.base.specs.Numbers.{Outcome}
 use Rattle.tree.specs.Faults.{list_fault}
 use Rattle.table.specs.Table.{table_of}
@@ -42,7 +42,7 @@ unfoldable pub answering : List ℕ → ℕ → List (List ℕ) → List ℕ
 answering table k [] = []
 answering table k ([] ∷ []) = []
 answering table k ((b ∷ l) ∷ []) = bad_line k
-answering table k (l ∷ m ∷ ls) = Option·elim (question_of l) (bad_line k) (λ q. answer_row table q ++ answering table (suc k) (m ∷ ls))
+answering table k (l ∷ m ∷ ls) = Option-elim (question_of l) (bad_line k) (λ q. answer_row table q ++ answering table (suc k) (m ∷ ls))
 
 -- what turns a list away, in working memory that is long enough
 abbrev pub fault : List ℕ → Option Outcome
@@ -50,20 +50,20 @@ fault ps = or_else (count_fault (length ps)) (list_fault ps)
 
 -- "The header follows an accepted list. A refused list prints `list,` number `,` name, and ends."
 unfoldable pub judged : List ℕ → ℕ → List (List ℕ) → List ℕ
-judged ps k ls = Option·elim (fault ps) (header_row ++ answering (table_of ps) k ls) bad_list
+judged ps k ls = Option-elim (fault ps) (header_row ++ answering (table_of ps) k ls) bad_list
 
 -- "a line `P,parent` for each entry": m lines more, behind the parents ps
 unfoldable pub listing : ℕ → List ℕ → ℕ → List (List ℕ) → List ℕ
 listing zero ps k ls = judged ps k ls
 listing (suc m) ps k [] = bad_line k
 listing (suc m) ps k (l ∷ []) = bad_line k
-listing (suc m) ps k (l ∷ r ∷ ls) = Option·elim (parent_of l) (bad_line k) (λ p. listing m (ps ++ (p ∷ [])) (suc k) (r ∷ ls))
+listing (suc m) ps k (l ∷ r ∷ ls) = Option-elim (parent_of l) (bad_line k) (λ p. listing m (ps ++ (p ∷ [])) (suc k) (r ∷ ls))
 
 -- "`N,count`", and a count of at most 512
 unfoldable pub opening : List (List ℕ) → List ℕ
 opening [] = bad_line 1
 opening (l ∷ []) = bad_line 1
-opening (l ∷ r ∷ ls) = Option·elim (count_of l) (bad_line 1) (λ n. cond (ltb most_listed n) (bad_line 1) (listing n [] 2 (r ∷ ls)))
+opening (l ∷ r ∷ ls) = Option-elim (count_of l) (bad_line 1) (λ n. cond (ltb most_listed n) (bad_line 1) (listing n [] 2 (r ∷ ls)))
 
 unfoldable pub counter : List ℕ → List ℕ
 counter input = opening (parted line_feed input)

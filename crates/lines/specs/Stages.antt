@@ -1,6 +1,6 @@
 -- The counter program line by line: what a line prints, and where the program then stands. Assumes nothing.
 use Rattle.std.specs.Prelude.{List, [], ◌∷◌, ◌++◌, cond, ℕ, zero, suc, ltb}
-use Rattle.std.proofs.Math.Option.{Option·elim}
+use Rattle.std.proofs.Math.Option.{Option-elim}
 use Rattle.table.specs.Table.{table_of}
 use Rattle.lines.specs.Text.{line_feed}
 use Rattle.lines.specs.Fields.{parted, count_of, parent_of, question_of}
@@ -31,14 +31,14 @@ ends out = record { out = out; next = ended }
 
 -- the list so far, with m lines to come: judged once it is whole
 unfoldable pub listed : ℕ → List ℕ → ℕ → Turn
-listed zero ps k = Option·elim (fault ps) (record { out = header_row; next = asking (table_of ps) k }) (λ o. ends (bad_list o))
+listed zero ps k = Option-elim (fault ps) (record { out = header_row; next = asking (table_of ps) k }) (λ o. ends (bad_list o))
 listed (suc m) ps k = record { out = []; next = parenting m ps k }
 
 -- a whole line
 unfoldable pub on_line : Stage → List ℕ → Turn
-on_line counting l = Option·elim (count_of l) (ends (bad_line 1)) (λ n. cond (ltb most_listed n) (ends (bad_line 1)) (listed n [] 2))
-on_line (parenting m ps k) l = Option·elim (parent_of l) (ends (bad_line k)) (λ p. listed m (ps ++ (p ∷ [])) (suc k))
-on_line (asking table k) l = Option·elim (question_of l) (ends (bad_line k)) (λ q. record { out = answer_row table q; next = asking table (suc k) })
+on_line counting l = Option-elim (count_of l) (ends (bad_line 1)) (λ n. cond (ltb most_listed n) (ends (bad_line 1)) (listed n [] 2))
+on_line (parenting m ps k) l = Option-elim (parent_of l) (ends (bad_line k)) (λ p. listed m (ps ++ (p ∷ [])) (suc k))
+on_line (asking table k) l = Option-elim (question_of l) (ends (bad_line k)) (λ q. record { out = answer_row table q; next = asking table (suc k) })
 on_line ended l = ends []
 
 -- the end of the input behind a part of a line: what is cut short or missing

@@ -2,7 +2,7 @@
 -- Assumes nothing.
 use Rattle.std.specs.Prelude.{◌≡◌, refl, ℕ, length}
 use mathlib.Core.List.{List, [], ◌∷◌, ◌++◌, flatten, flat_map, map}
-use Rattle.std.proofs.Math.Option.{Option, none, some, Option·elim, bind, or_else}
+use Rattle.std.proofs.Math.Option.{Option, none, some, Option-elim, bind, or_else}
 use Rattle.base.specs.Lists.{each, keep, first, index, every, some?, places, padded}
 use Rattle.base.specs.Numbers.{Outcome, accepted, count, stray, tops, loop, unknown, too_deep}
 use Rattle.base.specs.Limits.{group_limit, table_words, space_words, top_mark}
@@ -125,5 +125,5 @@ marked =
     ∷ []
 
 marked-entries : map (λ c. say c.asked) marked ≡ map (λ c. c.said) marked
-unfolding say marked chain chain_of_ten chain_of_eleven chain_table look_in look turn flatten flat_map Option·elim bind or_else each keep first index every some? places padded entry parent climb_up climb_within depth plant grow preorder forest_size forest_height tallest spine path_top is_stray meets_top list_fault walk_round shape_number parent_list reached local_depth nearest ladders own_path lad_pos micro group_root groups group_words jump_node jump_record micro_kind macro_kind kind header entry_sections laid_sections table_of count_fault table_fault space_fault call_fault refusal preparing run trace if_le if_lt if_eq if_none listed answer_to exponent after_class after_count opened after_ladpos after_ancestor read_ancestor after_jump_depth from_jump after_parent_kind after_parent after_position in_group after_shape from_group after_kind ancestor_at after_depth from_entry level
+unfolding say marked chain chain_of_ten chain_of_eleven chain_table look_in look turn flatten flat_map Option-elim bind or_else each keep first index every some? places padded entry parent climb_up climb_within depth plant grow preorder forest_size forest_height tallest spine path_top is_stray meets_top list_fault walk_round shape_number parent_list reached local_depth nearest ladders own_path lad_pos micro group_root groups group_words jump_node jump_record micro_kind macro_kind kind header entry_sections laid_sections table_of count_fault table_fault space_fault call_fault refusal preparing run trace if_le if_lt if_eq if_none listed answer_to exponent after_class after_count opened after_ladpos after_ancestor read_ancestor after_jump_depth from_jump after_parent_kind after_parent after_position in_group after_shape from_group after_kind ancestor_at after_depth from_entry level
 marked-entries = refl

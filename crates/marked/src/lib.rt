@@ -1,1 +1,3 @@
 // The marked entries of the paper: one table of cases and one statement, no functions.
+#![tactic(auto)]
+

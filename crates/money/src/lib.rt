@@ -1,4 +1,6 @@
 // What a sum insured costs at a rate: the premium in cents, or why there is none.
+#![tactic(auto)]
+
 mod rounding;
 mod signs;
 

@@ -1,5 +1,7 @@
 // The paper's printed steps, walked on a lent table of any contents with plain words and a test at each word: what the programs hold the questions to. It
 // shares no code with them.
+#![tactic(auto)]
+
 mod local;
 mod power;
 mod relation;

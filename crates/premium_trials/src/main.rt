@@ -1,5 +1,7 @@
 // Tries the premium: every small tree with lists of rates and sums of every kind, and every rest about half a cent. Each quote is held to a plain climb of
 // the parent list, to the cells of the printed steps, and to plain arithmetic.
+#![tactic(auto)]
+
 mod asking;
 mod halves;
 mod printed;

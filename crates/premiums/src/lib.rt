@@ -1,4 +1,6 @@
 // The premium of a sum insured: the class by the rating lookup, its rate from a list of rates, and the cents.
+#![tactic(auto)]
+
 ghost use Rattle.std.specs.Prelude.{◌≡◌, List, [], ◌∷◌, ℕ};
 ghost use Rattle.tree.specs.Questions.{rating_of};
 ghost use Rattle.answers.specs.Answers.{answer_words};

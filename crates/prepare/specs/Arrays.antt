@@ -1,6 +1,6 @@
 -- Arrays by preorder position, and the sections that a pass over them leaves. Assumes nothing.
 use Rattle.std.specs.Prelude.{◌≡◌, List, map, ℕ, ◌+◌, ◌-◌, ◌≤◌, ◌<◌, length, get_or}
-use Rattle.std.proofs.Math.Option.{some, Option·elim}
+use Rattle.std.proofs.Math.Option.{some, Option-elim}
 use Rattle.base.specs.Limits.{most_entries, group_limit, top_mark}
 use Rattle.base.specs.Lists.{below}
 use Rattle.base.specs.Powers.{exponent}
@@ -20,10 +20,10 @@ entry_at ps i = get_or (order ps) i 0
 
 -- the position of the entry above v, and of the child to which its long path continues, or the top mark
 unfoldable pub above_position : List ℕ → ℕ → ℕ
-above_position ps v = Option·elim (parent ps v) top_mark (position ps)
+above_position ps v = Option-elim (parent ps v) top_mark (position ps)
 
 unfoldable pub long_position : List ℕ → ℕ → ℕ
-long_position ps v = Option·elim (long_child ps v) top_mark (position ps)
+long_position ps v = Option-elim (long_child ps v) top_mark (position ps)
 
 -- an array with a word for each position, that of the entry there
 abbrev pub by_position : List ℕ → (ℕ → ℕ) → List ℕ
@@ -48,7 +48,7 @@ kinds_of ps = below (length ps) (kind group_limit ps)
 
 -- the word of a record behind its ancestors, by the entry's depth: the ancestor for e stands in word e + 1, and the last of them is for the exponent of the depth
 unfoldable pub ancestors_end : ℕ → ℕ
-ancestors_end deep = Option·elim (exponent deep) 1 (λ e. e + 2)
+ancestors_end deep = Option-elim (exponent deep) 1 (λ e. e + 2)
 
 -- the ancestors of v, the nearest last, in the words before a place, and all else as it was
 pub record Risen (ps : List ℕ) (v place count : ℕ) (old new : List ℕ) : Type 0 where

@@ -1,4 +1,6 @@
 // Preparing the table of a parent list, on a lent working space of 6n words.
+#![tactic(auto)]
+
 mod filling;
 mod grouping;
 mod jumps;

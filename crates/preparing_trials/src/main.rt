@@ -1,4 +1,6 @@
 // Tries preparing on lists of many kinds: answer, table and space against a table laid by plain definitions.
+#![tactic(auto)]
+
 mod book;
 mod codes;
 mod compare;

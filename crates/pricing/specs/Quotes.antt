@@ -1,6 +1,6 @@
 -- What a question with a sheet answers, on any table, text, entry, level and sum (2026-02). Assumes nothing.
 use Rattle.std.specs.Prelude.{cond, List, ℕ, length, eqb, ℤ, pos, nat_abs}
-use Rattle.std.proofs.Math.Option.{Option, map, Option·elim}
+use Rattle.std.proofs.Math.Option.{Option, map, Option-elim}
 use Rattle.base.specs.Numbers.{Outcome, accepted, bad_sum, gap}
 use Rattle.base.specs.Amounts.{legal_sum}
 use Rattle.tree.specs.Questions.{rating_of}
@@ -32,7 +32,7 @@ sheet_premium bs class sum = map (λ b. premium sum b.rate) (band_of bs class (n
 unfoldable pub class_price : List Band → ℤ → ℕ → SheetPrice
 class_price bs sum class =
     cond (legal_sum sum)
-    (Option·elim (sheet_premium bs class sum) (refusing (naming (gap class) (nat_abs sum))) (costing (accepted class)))
+    (Option-elim (sheet_premium bs class sum) (refusing (naming (gap class) (nat_abs sum))) (costing (accepted class)))
     (refusing (naming bad_sum 0))
 
 -- the price where the rating lookup has an outcome: "Pricing gives these too, after the lookup's numbers and before 12"

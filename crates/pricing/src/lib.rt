@@ -1,4 +1,6 @@
 // The premium of a sum insured by a sheet with bands: the class by the rating lookup, the rate of the band that holds the sum's size, and the cents.
+#![tactic(auto)]
+
 mod prices;
 
 ghost use Rattle.std.specs.Prelude.{◌≡◌, [], ◌∷◌, set};

@@ -1,4 +1,6 @@
 // The five questions and step 1 by itself, on a lent table of any length and contents. Each gives a result or one of the numbered refusals.
+#![tactic(auto)]
+
 mod branching;
 mod ends;
 mod group;

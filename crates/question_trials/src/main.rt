@@ -1,6 +1,8 @@
 // Tries the five questions on the prepared tables of many trees: each answer against a plain climb of the parent list, and whole against a walk of the
 // printed steps. Then tries them on damaged tables, against that walk. With them the two questions about what entries share: against two plain climbs, on forks too, and on a
 // damaged table against step 1 and bounds.
+#![tactic(auto)]
+
 mod asking;
 mod common;
 mod damaged;

@@ -1,1 +1,3 @@
 // One tree under another office's numbering: definitions and theorems, no functions.
+#![tactic(auto)]
+

@@ -1,6 +1,6 @@
 -- What a sum costs for an entry, from an office's parent list and its rates or its sheet. Assumes nothing.
 use Rattle.std.specs.Prelude.{List, ℕ, length, ℤ}
-use Rattle.std.proofs.Math.Option.{Option·elim}
+use Rattle.std.proofs.Math.Option.{Option-elim}
 use Rattle.tree.specs.Questions.{rating_of}
 use Rattle.table.specs.Preparing.{refusal}
 use Rattle.money.specs.Prices.{refused}
@@ -23,8 +23,8 @@ office list tariff table space v = record { list = list; tariff = tariff; table 
 
 -- the refusal of its call of preparing, and else what the premium question means on the list
 unfoldable pub premium_from : Office → ℕ → ℤ → Price
-premium_from o d sum = Option·elim (refusal o.list o.table o.space) (price_of o.tariff sum (rating_of o.list o.entry d)) refused
+premium_from o d sum = Option-elim (refusal o.list o.table o.space) (price_of o.tariff sum (rating_of o.list o.entry d)) refused
 
 -- and else what the question with a sheet means on it
 unfoldable pub price_from : Office → ℕ → ℤ → SheetPrice
-price_from o d sum = Option·elim (refusal o.list o.table o.space) (price_on o.list o.tariff o.entry d sum) (λ x. refusing (naming x 0))
+price_from o d sum = Option-elim (refusal o.list o.table o.space) (price_on o.list o.tariff o.entry d sum) (λ x. refusing (naming x 0))

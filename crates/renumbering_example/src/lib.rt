@@ -1,5 +1,7 @@
 // Another office's numbering: the premium of one barn from two parent lists of one tree, each with rates or a sheet of its own. It rests on the promises of `prepare`, `premium`
 // and `price`, and on theorems of the definitions that these name.
+#![tactic(auto)]
+
 ghost use Rattle.std.specs.Prelude.{◌≡◌};
 ghost use Rattle.table.specs.Preparing.{table_after, space_after};
 ghost use Rattle.renumbering_example.specs.Offices.{office, premium_from, price_from};

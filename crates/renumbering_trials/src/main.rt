@@ -1,5 +1,7 @@
 // Tries another office's numbering: trees of every kind renumbered at random, each entry at each level, with lists of rates and sheets renumbered alike. It counts the answers
 // that differ in number, class or premium, and the questions whose cells differ, which they may.
+#![tactic(auto)]
+
 mod asking;
 mod bands;
 mod comparing;

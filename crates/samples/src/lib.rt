@@ -1,4 +1,6 @@
 // Parent lists of many kinds, made from fixed seeds, and what else the programs share that try the engine on them. Entries are plain words here.
+#![tactic(auto)]
+
 pub mod amounts;
 pub mod cases;
 pub mod climbing;

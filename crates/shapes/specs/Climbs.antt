@@ -1,7 +1,7 @@
 -- The shape table: the local number reached from each local number of each shape by each number of climbs. Assumes nothing.
 use Rattle.std.specs.Prelude.{◌≡◌, List, [], ◌∷◌, ℕ, suc, ◌<◌, get_or, drop}
 use Rattle.std.proofs.Math.Option
-use Rattle.std.proofs.Math.Option.{Option, none, some, bind, Option·elim}
+use Rattle.std.proofs.Math.Option.{Option, none, some, bind, Option-elim}
 use Rattle.std.proofs.Math.ListN.{get_elem?}
 use Rattle.base.specs.Lists.{below}
 use Rattle.base.specs.Limits.{top_mark}
@@ -26,11 +26,11 @@ reached L s l k = bind (get_elem? (shapes L) s) (λ w. climb_up (parent_list w) 
 
 -- the depth of local number l in shape s
 unfoldable pub local_depth : ℕ → ℕ → ℕ → ℕ
-local_depth L s l = Option·elim (get_elem? (shapes L) s) 0 (λ w. depth (parent_list w) l)
+local_depth L s l = Option-elim (get_elem? (shapes L) s) 0 (λ w. depth (parent_list w) l)
 
 -- the climbs that lead from local number l out of a group of shape s, one more than its depth; 0 where there is no such shape or local number
 unfoldable pub climbs_out : ℕ → ℕ → ℕ → ℕ
-climbs_out L s l = Option·elim (reached L s l 0) 0 (λ j. suc (local_depth L s l))
+climbs_out L s l = Option-elim (reached L s l 0) 0 (λ j. suc (local_depth L s l))
 
 -- 255 stands for none
 abbrev pub mark : Option ℕ → ℕ

@@ -1,4 +1,6 @@
 // The shape table: where the climbs within a small group lead. And the number of a shape.
+#![tactic(auto)]
+
 mod numbering;
 mod packed;
 

@@ -1,6 +1,8 @@
 // Tries the check of sheets with bands and the questions with them: sheets of every kind of fault, and without one, for the levels of many trees. Each answer
 // is held to a plain reading of the text, a plain count of the lines that hold each amount where that count can change, a plain climb of the parent list and
 // plain arithmetic; and the cells to those of the printed steps.
+#![tactic(auto)]
+
 mod asking;
 mod kinds;
 mod printed;

@@ -1,6 +1,6 @@
 -- A sheet is a text of lines `class,from,to,rate`: its bands, or its first bad line (2026-02). Assumes nothing.
 use Rattle.std.specs.Prelude.{List, [], ◌∷◌, ◌++◌, cond, ℕ, suc, length, leb}
-use Rattle.std.proofs.Math.Option.{Option, none, some, Option·elim, bind}
+use Rattle.std.proofs.Math.Option.{Option, none, some, Option-elim, bind}
 use Rattle.base.specs.Amounts.{most_lines}
 use Rattle.bands.specs.Bands.{Band, is_band}
 use Rattle.lines.specs.Text.{line_feed}
@@ -23,7 +23,7 @@ unfoldable pub reading : List ℕ → ℕ → List Band → List (List ℕ) → 
 reading depths d bs [] = whole bs
 reading depths d bs ([] ∷ []) = whole bs
 reading depths d bs ((x ∷ l) ∷ []) = bad (suc (length bs))
-reading depths d bs (l ∷ m ∷ ls) = Option·elim (line_band depths d (suc (length bs)) l) (bad (suc (length bs))) (λ b. reading depths d (bs ++ (b ∷ [])) (m ∷ ls))
+reading depths d bs (l ∷ m ∷ ls) = Option-elim (line_band depths d (suc (length bs)) l) (bad (suc (length bs))) (λ b. reading depths d (bs ++ (b ∷ [])) (m ∷ ls))
 
 unfoldable pub sheet_of : List ℕ → ℕ → List ℕ → Sheet
 sheet_of depths d text = reading depths d [] (parted line_feed text)

@@ -1,6 +1,6 @@
 -- The check of a sheet of rating level d, for every table and every text (2026-02). Assumes nothing.
 use Rattle.std.specs.Prelude.{◌≡◌, List, cond, ℕ, length, eqb}
-use Rattle.std.proofs.Math.Option.{Option·elim}
+use Rattle.std.proofs.Math.Option.{Option-elim}
 use Rattle.base.specs.Lists.{below, view}
 use Rattle.base.specs.Limits.{depth_start}
 use Rattle.base.specs.Numbers.{Outcome, accepted, bad_line}
@@ -18,7 +18,7 @@ naming o amount = record { number = o.number; word = o.word; amount = amount }
 -- "it refuses the first bad line, .. then, whichever the named amount has, a gap (14) or an overlap (15)"; "Acceptance names the number of lines"
 unfoldable pub judged : List ℕ → ℕ → Sheet → Verdict
 judged depths d (bad k) = naming (bad_line k) 0
-judged depths d (whole bs) = Option·elim (sheet_fault depths d bs) (naming (accepted (length bs)) 0) (λ f. naming f.outcome f.amount)
+judged depths d (whole bs) = Option-elim (sheet_fault depths d bs) (naming (accepted (length bs)) 0) (λ f. naming f.outcome f.amount)
 
 unfoldable pub verdict : List ℕ → ℕ → List ℕ → Verdict
 verdict depths d text = judged depths d (sheet_of depths d text)

@@ -1,4 +1,6 @@
 // Sheets with bands: the check of a sheet's text, and a checked sheet in words of the caller's, in which the band of an amount is found.
+#![tactic(auto)]
+
 mod finding;
 mod judging;
 mod keys;

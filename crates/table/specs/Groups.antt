@@ -2,7 +2,7 @@
 -- Assumes nothing.
 use Rattle.std.specs.Prelude.{List, [], ◌∷◌, map, Bool, true, not, cond, ◌&&◌, ℕ, ◌+◌, ◌*◌, ◌^◌, get_or, leb}
 use Rattle.std.proofs.Math.Option
-use Rattle.std.proofs.Math.Option.{Option·elim}
+use Rattle.std.proofs.Math.Option.{Option-elim}
 use Rattle.base.specs.Lists.{below, keep, index, place, has, every}
 use Rattle.base.specs.Limits.{micro_mark, local_span, top_mark}
 use Rattle.tree.specs.Parents.{parent, up, depth, children}
@@ -15,7 +15,7 @@ micro L ps v = leb (size ps v) L
 
 -- the root of a group: a micro entry that is the top or whose parent is not micro
 unfoldable pub group_root : ℕ → List ℕ → ℕ → Bool
-group_root L ps v = micro L ps v && Option·elim (parent ps v) true (λ p. not (micro L ps p))
+group_root L ps v = micro L ps v && Option-elim (parent ps v) true (λ p. not (micro L ps p))
 
 -- the groups, numbered in preorder: each is a root with all below it
 abbrev pub group_roots : ℕ → List ℕ → List ℕ

@@ -1,6 +1,6 @@
 -- What preparing answers, and what table and space then hold, for every list, table and space. Assumes nothing.
 use Rattle.std.specs.Prelude.{◌≡◌, List, ◌++◌, Bool, cond, ◌||◌, ℕ, ◌≤◌, length, take, drop, replicate, eqb, ltb}
-use Rattle.std.proofs.Math.Option.{Option, none, some, Option·elim, or_else}
+use Rattle.std.proofs.Math.Option.{Option, none, some, Option-elim, or_else}
 use Rattle.base.specs.Numbers.{Outcome, accepted, count, short_table, short_space}
 use Rattle.base.specs.Limits.{most_entries, table_words, space_words}
 use Rattle.tree.specs.Faults.{list_fault}
@@ -29,17 +29,17 @@ refusal ps table_len space_len = or_else (call_fault (length ps) table_len space
 
 -- preparing's answer: acceptance is number 0 and names W
 unfoldable pub preparing : List ℕ → ℕ → ℕ → Outcome
-preparing ps table_len space_len = Option·elim (refusal ps table_len space_len) (accepted (table_words (length ps))) (λ o. o)
+preparing ps table_len space_len = Option-elim (refusal ps table_len space_len) (accepted (table_words (length ps))) (λ o. o)
 
 -- the table after preparing: every refusal leaves it unchanged; after acceptance the words beyond W are
 unfoldable pub table_after : List ℕ → List ℕ → List ℕ → List ℕ
-table_after ps table space = Option·elim (refusal ps (length table) (length space)) (table_of ps ++ drop (table_words (length ps)) table) (λ o. table)
+table_after ps table space = Option-elim (refusal ps (length table) (length space)) (table_of ps ++ drop (table_words (length ps)) table) (λ o. table)
 
 -- the space after preparing: 1, 2 and 3 leave it unchanged; after any other answer its first 6n words are zero, and those beyond unchanged
 unfoldable pub space_after : List ℕ → List ℕ → List ℕ → List ℕ
 space_after ps table space =
     let m = space_words (length ps) in
-    Option·elim (call_fault (length ps) (length table) (length space)) (replicate m 0 ++ drop m space) (λ o. space)
+    Option-elim (call_fault (length ps) (length table) (length space)) (replicate m 0 ++ drop m space) (λ o. space)
 
 -- a list that preparing accepts, with table and space long enough
 pub record Accepted (ps : List ℕ) : Type 0 where
@@ -58,10 +58,10 @@ lend_fault n space_len = or_else (count_fault n) (space_fault n space_len)
 
 -- its answer: 1, 3, 4, 5, 6 in that order; acceptance is number 0 and names n
 unfoldable pub judging : List ℕ → ℕ → Outcome
-judging ps space_len = Option·elim (or_else (lend_fault (length ps) space_len) (list_fault ps)) (accepted (length ps)) (λ o. o)
+judging ps space_len = Option-elim (or_else (lend_fault (length ps) space_len) (list_fault ps)) (accepted (length ps)) (λ o. o)
 
 -- the space after judging: 1 and 3 leave it unchanged; after any other answer its first 6n words are zero, and those beyond unchanged
 unfoldable pub judged_space : List ℕ → List ℕ → List ℕ
 judged_space ps space =
     let m = space_words (length ps) in
-    Option·elim (lend_fault (length ps) (length space)) (replicate m 0 ++ drop m space) (λ o. space)
+    Option-elim (lend_fault (length ps) (length space)) (replicate m 0 ++ drop m space) (λ o. space)

@@ -1,1 +1,3 @@
 // The prepared table: definitions and theorems, no functions.
+#![tactic(auto)]
+

@@ -1,6 +1,6 @@
 -- The ordered forest of a parent list: size, height, preorder, long paths. Assumes nothing.
 use Rattle.std.specs.Prelude.{List, [], ◌∷◌, ◌++◌, Bool, true, false, cond, not, ℕ, zero, suc, ◌+◌, max, length, eqb, leb}
-use Rattle.std.proofs.Math.Option.{Option, none, some, Option·elim}
+use Rattle.std.proofs.Math.Option.{Option, none, some, Option-elim}
 use Rattle.base.specs.Lists.{place}
 use Rattle.base.specs.Limits.{top_mark}
 use Rattle.tree.specs.Parents.{parent, children}
@@ -81,7 +81,7 @@ long_child ps v = tallest (under ps v)
 
 -- v is the top of a long path: the top entry, or not the child to which its parent's path continues
 unfoldable pub path_top : List ℕ → ℕ → Bool
-path_top ps v = Option·elim (parent ps v) true (λ p. not (Option·elim (long_child ps p) false (eqb v)))
+path_top ps v = Option-elim (parent ps v) true (λ p. not (Option-elim (long_child ps p) false (eqb v)))
 
 -- the long path from v down
 abbrev pub path_from : List ℕ → ℕ → List ℕ

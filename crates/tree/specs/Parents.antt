@@ -1,6 +1,6 @@
 -- "The parent list": n words, each the number of the entry above or the top mark. An entry is a node of 003. Assumes nothing.
 use Rattle.std.specs.Prelude.{List, [], ◌∷◌, Bool, cond, ℕ, zero, suc, ◌-◌, length, get_or, eqb, ltb}
-use Rattle.std.proofs.Math.Option.{Option, none, some, Option·elim, bind}
+use Rattle.std.proofs.Math.Option.{Option, none, some, Option-elim, bind}
 use Rattle.std.proofs.Math.ListN.{get_elem?}
 use Rattle.base.specs.Lists.{places}
 
@@ -24,7 +24,7 @@ up ps (suc k) v = bind (parent ps v) (up ps k)
 -- v and the entries above it, nearest first: m of them at most
 unfoldable pub climb_within : List ℕ → ℕ → ℕ → List ℕ
 climb_within ps zero v = []
-climb_within ps (suc m) v = v ∷ Option·elim (parent ps v) [] (climb_within ps m)
+climb_within ps (suc m) v = v ∷ Option-elim (parent ps v) [] (climb_within ps m)
 
 -- the climb of v. One that meets the top passes at most n entries
 abbrev pub climb : List ℕ → ℕ → List ℕ

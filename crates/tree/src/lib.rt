@@ -1,1 +1,3 @@
 // The parent list and its tree: definitions and theorems, no functions.
+#![tactic(auto)]
+
