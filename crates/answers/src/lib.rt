@@ -10,14 +10,14 @@ pub const PLACES: usize = 15;
 pub const ANSWER_WORDS: usize = PLACES + 3;
 
 // The cells read, in the order read. Places past the count are 0.
-#[derive(Drop)]
+#[derive(Clone, Copy)]
 pub struct Cells {
     pub at: [u32; PLACES],
     pub count: u32,
 }
 
 // An answer: its number and result word, up to fifteen cell numbers and their count.
-#[derive(Drop)]
+#[derive(Clone, Copy)]
 pub struct Answer {
     pub number: u32,
     pub word: u32,

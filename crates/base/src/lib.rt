@@ -10,23 +10,23 @@ mod words;
 pub use words::{clear, set_all};
 
 // An entry's number: a node of 003.
-#[derive(Drop)]
+#[derive(Clone, Copy)]
 pub struct Node(pub u32);
 
 // An entry's place in the preorder: its depth-first number in 003.
-#[derive(Drop)]
+#[derive(Clone, Copy)]
 pub struct Position(pub u32);
 
 // A sum insured, in whole units of money; an endorsement that takes cover off is negative.
-#[derive(Drop)]
+#[derive(Clone, Copy)]
 pub struct Sum(pub i64);
 
 // An amount in cents.
-#[derive(Drop)]
+#[derive(Clone, Copy)]
 pub struct Cents(pub i64);
 
 // The paper's number of an answer, and what it names.
-#[derive(Drop)]
+#[derive(Clone, Copy)]
 pub struct Reply {
     pub number: u32,
     pub word: u32,

@@ -3,7 +3,7 @@ ghost use Rattle.std.specs.Prelude.{◌≡◌};
 ghost use Rattle.base.specs.Powers.{exponent, exponent_of};
 
 // That power, by its exponent, or that there is none.
-#[derive(Drop)]
+#[derive(Clone, Copy)]
 pub enum LargestPower {
     None,
     Exponent(u32),

@@ -19,7 +19,7 @@ use base::{Node, Reply};
 use query::entries;
 
 // What is asked of two entries: the class that they share, or the climbs between them.
-#[derive(Drop)]
+#[derive(Clone, Copy)]
 pub enum Sought {
     Class,
     Climbs,

@@ -11,7 +11,7 @@ use base::limits::MOST_ENTRIES;
 use base::numbers::{ACCEPTED, BROKEN};
 
 // What was found, or 9: an entry on both climbs, the climbs to it, from the less deep entry or, of `nearest`, from both, and how many entries were looked up and tested.
-#[derive(Drop)]
+#[derive(Clone, Copy)]
 pub struct Found {
     pub number: u32,
     pub word: u32,
@@ -20,7 +20,7 @@ pub struct Found {
 }
 
 // Two entries, of which the first is not the deeper: its depth, and how much deeper the second is.
-#[derive(Drop)]
+#[derive(Clone, Copy)]
 pub struct Ends {
     pub first: Node,
     pub second: Node,

@@ -13,7 +13,7 @@ use base::numbers::{ACCEPTED, BROKEN};
 use query::{ancestry, climb_words};
 
 // An entry of a climb, and whether it is at or above another.
-#[derive(Drop)]
+#[derive(Clone, Copy)]
 pub struct Trial {
     pub number: u32,
     pub word: u32,

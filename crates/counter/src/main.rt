@@ -9,7 +9,7 @@ use libc::{STDERR_FILENO, STDIN_FILENO, STDOUT_FILENO};
 use lines::room::{LINE_ROOM, LIST_ROOM, SPACE_ROOM, TABLE_ROOM};
 
 // The state behind a piece of the input, and whether all that it printed was written.
-#[derive(Drop)]
+#[derive(Clone, Copy)]
 struct Went {
     state: State,
     ok: bool,

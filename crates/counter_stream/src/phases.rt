@@ -7,7 +7,7 @@ ghost use Rattle.counter_stream.specs.Fitness.{lent, start_state, end_state, is_
 use lines::room::{LINE_ROOM, LIST_ROOM, MOST_LISTED, SPACE_ROOM, TABLE_ROOM};
 
 // What the next line is to be.
-#[derive(Drop)]
+#[derive(Clone, Copy)]
 pub enum Phase {
     AwaitsCount,
     AwaitsParent,
@@ -16,7 +16,7 @@ pub enum Phase {
 }
 
 // The phase, the next line's number, the entries announced and those read, and how many bytes of an unfinished line are held.
-#[derive(Drop)]
+#[derive(Clone, Copy)]
 pub struct State {
     pub phase: Phase,
     pub line: u64,

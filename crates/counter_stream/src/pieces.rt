@@ -10,7 +10,7 @@ use lines::room::{LINE_ROOM, ROW_ROOM};
 use lines::writing::{Text, bad_line, nothing};
 
 // The state behind some bytes of a piece, how many they are and how many were printed.
-#[derive(Drop)]
+#[derive(Clone, Copy)]
 pub struct Progress {
     pub state: State,
     pub used: usize,

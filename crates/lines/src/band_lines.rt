@@ -6,7 +6,7 @@ use crate::reading::{MOST_DIGITS, MOST_NUMBER};
 use base::Node;
 
 // The band that was read and the place behind its line feed, or a line of another form.
-#[derive(Drop)]
+#[derive(Clone, Copy)]
 pub enum Listed {
     Band {
         class: Node,
@@ -19,7 +19,7 @@ pub enum Listed {
 }
 
 // The number that was read and the place behind the byte that ends it, or a field of another form.
-#[derive(Drop)]
+#[derive(Clone, Copy)]
 enum Field {
     Number { value: u32, next: usize },
     Other,

@@ -12,14 +12,14 @@ pub(crate) const MOST_DIGITS: usize = 10;
 pub(crate) const MOST_NUMBER: u64 = 4294967295;
 
 // The number that was read, or bytes of another form.
-#[derive(Drop)]
+#[derive(Clone, Copy)]
 pub enum Found {
     Number(u32),
     Other,
 }
 
 // The question that was read, or a line of another form.
-#[derive(Drop)]
+#[derive(Clone, Copy)]
 pub enum Asked {
     Question { entry: Node, depth: u32 },
     Other,

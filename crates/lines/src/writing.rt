@@ -9,7 +9,7 @@ use base::Node;
 use base::numbers::ACCEPTED;
 
 // A text: its first `count` bytes.
-#[derive(Drop)]
+#[derive(Clone, Copy)]
 pub struct Text {
     pub bytes: [u8; ROW_ROOM],
     pub count: usize,

@@ -13,7 +13,7 @@ use base::{Cents, Sum};
 pub use signs::size;
 
 // The number of an answer, the class or what the refusal names, and the premium.
-#[derive(Drop)]
+#[derive(Clone, Copy)]
 pub struct Price {
     pub number: u32,
     pub word: u32,

@@ -8,7 +8,7 @@ use samples::climbing::{above, climbs};
 use samples::words::{add, less};
 
 // An answer: its number and word, the amount besides, and the size of the cents.
-#[derive(Drop)]
+#[derive(Clone, Copy)]
 pub struct Due {
     pub number: usize,
     pub word: usize,

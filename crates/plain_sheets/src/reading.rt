@@ -5,7 +5,7 @@ use samples::climbing::climbs;
 use samples::words::{TOP, add, less, times};
 
 // The lines that are read; the fields of the next one, and the digits and the number of its next field; and the first bad line's number, or 0.
-#[derive(Drop)]
+#[derive(Clone, Copy)]
 pub(crate) struct Reader {
     pub(crate) lines: usize,
     fields: usize,

@@ -2,7 +2,7 @@
 ghost use Rattle.std.specs.Prelude.{◌+◌, ◌-◌, ◌<◌, ◌≤◌};
 
 // A power of two, and its exponent.
-#[derive(Drop)]
+#[derive(Clone, Copy)]
 pub(crate) struct Power {
     pub(crate) exponent: usize,
     pub(crate) value: usize,

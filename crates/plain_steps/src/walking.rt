@@ -4,7 +4,7 @@ ghost use Rattle.plain_steps.specs.Same.{SameCells, Same};
 
 use samples::words::{get, narrow, wide};
 
-#[derive(Drop)]
+#[derive(Clone, Copy)]
 pub struct Walk {
     pub(crate) number: usize,
     pub(crate) word: usize,

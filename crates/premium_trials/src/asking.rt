@@ -7,13 +7,13 @@ use samples::tally::Tally;
 use samples::words::{get, narrow, wide};
 
 // What a rating lookup is to answer, and what a premium question is: number, word and the size of the cents.
-#[derive(Drop)]
+#[derive(Clone, Copy)]
 pub(crate) struct Looked {
     pub(crate) number: usize,
     pub(crate) word: usize,
 }
 
-#[derive(Drop)]
+#[derive(Clone, Copy)]
 struct Due {
     number: usize,
     word: usize,

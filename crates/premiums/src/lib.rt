@@ -20,7 +20,7 @@ use query::{rating, rating_words};
 const NO_RATE: u32 = MOST_RATE + 1;
 
 // An answer with the money: number, class and the cells of the rating lookup, and the premium.
-#[derive(Drop)]
+#[derive(Clone, Copy)]
 pub struct Quote {
     pub answer: Answer,
     pub cents: Cents,

@@ -9,7 +9,7 @@ use base::limits::{GROUP_LIMIT, LOCAL_SPAN, MICRO_MARK};
 use base::{Node, Position};
 
 // The groups and the jump entries.
-#[derive(Drop)]
+#[derive(Clone, Copy)]
 pub struct Counts {
     pub groups: u32,
     pub jumps: u32,

@@ -4,7 +4,7 @@ use crate::verdict::judge;
 use crate::words::{clear, fill};
 use samples::words::{add, get, times, wide};
 
-#[derive(Drop)]
+#[derive(Clone, Copy)]
 struct Reply {
     number: usize,
     name: usize,

@@ -3,7 +3,7 @@ use crate::words::table_words;
 use samples::climbing::climbs;
 use samples::words::{TOP, add, get, times};
 
-#[derive(Drop)]
+#[derive(Clone, Copy)]
 pub(crate) struct Verdict {
     pub(crate) number: usize,
     pub(crate) name: usize,

@@ -17,7 +17,7 @@ use query::{rating, rating_words};
 use sheets::{SHEET_WORDS, level_of};
 
 // An answer with the money: number, class or what the refusal names and the cells of the rating lookup; the amount that 14 and 15 name besides; and the premium.
-#[derive(Drop)]
+#[derive(Clone, Copy)]
 pub struct BandQuote {
     pub answer: Answer,
     pub amount: u32,
@@ -25,7 +25,7 @@ pub struct BandQuote {
 }
 
 // The amount that a refusal names beside its word, and the premium.
-#[derive(Drop)]
+#[derive(Clone, Copy)]
 pub struct Money {
     pub amount: u32,
     pub cents: Cents,

@@ -13,7 +13,7 @@ use money::{priced, size};
 use sheets::{Found, SHEET_WORDS, check_into, find};
 
 // The number of an answer, the class or what the refusal names, the amount that 14 and 15 name besides, and the premium.
-#[derive(Drop)]
+#[derive(Clone, Copy)]
 pub struct SheetPrice {
     pub number: u32,
     pub word: u32,

@@ -78,7 +78,7 @@ pub fn rating_words(table: &[u32], v: Node, level: u32, words: &mut [u32; ANSWER
 }
 
 // What step 1 finds: the number of entries, 0 where the table is broken.
-#[derive(Drop)]
+#[derive(Clone, Copy)]
 pub struct Count {
     pub n: u32,
     pub cells: Cells,
@@ -127,7 +127,7 @@ fn first(len: usize) -> Cells
 }
 
 // What step 2 finds: the number of entries and the depth of v. Where the lookup has ended, its words are written, and n is 0.
-#[derive(Drop)]
+#[derive(Clone, Copy)]
 pub struct Found {
     pub n: u32,
     pub depth: u32,

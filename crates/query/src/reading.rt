@@ -11,7 +11,7 @@ use base::numbers::{ACCEPTED, BROKEN};
 use std::num::wrapping_add_u32;
 
 // A word that was read, and the cells read so far.
-#[derive(Drop)]
+#[derive(Clone, Copy)]
 pub struct Got {
     pub word: u32,
     pub cells: Cells,

@@ -14,7 +14,7 @@ use base::numbers::{ACCEPTED, BROKEN, UNKNOWN};
 use base::{Node, Position};
 
 // How u stands to v in a table of n entries: at or above it, or not. Where that is refused, the refusal's number and what it names; else 0.
-#[derive(Drop)]
+#[derive(Clone, Copy)]
 pub struct Relation {
     pub number: u32,
     pub n: u32,

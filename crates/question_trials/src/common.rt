@@ -23,7 +23,7 @@ pub(crate) fn apart(parents: &[u32], n: usize, u: usize, v: usize) -> usize {
 }
 
 // An entry, and the climbs to it from both.
-#[derive(Drop)]
+#[derive(Clone, Copy)]
 struct Shared {
     class: usize,
     climbs: usize,

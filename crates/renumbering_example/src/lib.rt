@@ -15,14 +15,14 @@ use prepare::prepare;
 use pricing::{SheetPrice, price};
 
 // What a sum costs for one barn at two offices, by rates.
-#[derive(Drop)]
+#[derive(Clone, Copy)]
 pub struct TwoPremiums {
     pub first: Price,
     pub second: Price,
 }
 
 // The same by sheets.
-#[derive(Drop)]
+#[derive(Clone, Copy)]
 pub struct TwoPrices {
     pub first: SheetPrice,
     pub second: SheetPrice,

@@ -6,7 +6,7 @@ use samples::tally::Tally;
 use samples::words::{add, get, wide};
 
 // How many questions were asked, how many answers differ, and of how many questions the cells do, and their count.
-#[derive(Drop)]
+#[derive(Clone, Copy)]
 pub(crate) struct Count {
     pub(crate) tally: Tally,
     pub(crate) cells: usize,

@@ -34,7 +34,7 @@ const OF_KIND: usize = 212;
 const OF_SHEETS: usize = 80;
 
 // What preparing answers of two lists.
-#[derive(Drop)]
+#[derive(Clone, Copy)]
 struct Replies {
     first: u32,
     second: u32,
@@ -211,7 +211,7 @@ fn try_trees(money: bool, kind: usize) -> Count {
 }
 
 // A tree of n entries, a level of it, and how many bytes the text of a sheet for it has.
-#[derive(Drop)]
+#[derive(Clone, Copy)]
 struct Laid {
     n: usize,
     level: usize,

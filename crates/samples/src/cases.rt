@@ -24,7 +24,7 @@ pub const ANY: usize = 14;
 pub const GROWN: usize = 15;
 
 // A list's length, and the words of the table and of the space that go with it.
-#[derive(Drop)]
+#[derive(Clone, Copy)]
 pub struct Case {
     pub n: usize,
     pub table: usize,

@@ -62,7 +62,7 @@ pub(crate) fn grown_list(n: usize, code: usize, parents: &mut [u32]) {
 }
 
 // A list among those of 1 to some entries.
-#[derive(Drop)]
+#[derive(Clone, Copy)]
 pub(crate) struct Coded {
     pub(crate) n: usize,
     pub(crate) code: usize,

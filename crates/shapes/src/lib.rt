@@ -47,7 +47,7 @@ pub fn row(shape: u32, local: u32) -> [u8; LOCAL_NUMBERS]
 }
 
 // The field of one local number in its shape's word: a lookup takes one cell of the row by it without building the row.
-#[derive(Drop)]
+#[derive(Clone, Copy)]
 pub struct Climbs(pub u32);
 
 // The field of one local number of a shape, for every number of either. A word of 0 is answered at once: where there is no such shape, the range test that the compiler

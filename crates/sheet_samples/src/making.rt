@@ -6,7 +6,7 @@ use samples::seeds::{next, pick};
 use samples::words::{add, least, less};
 
 // The lines that are made, and the classes that are left.
-#[derive(Drop)]
+#[derive(Clone, Copy)]
 struct Made {
     lines: usize,
     left: usize,

@@ -6,7 +6,7 @@ use samples::seeds::{next, pick};
 use samples::words::add;
 
 // A field of a line, and its form: 0 for a plain number.
-#[derive(Drop)]
+#[derive(Clone, Copy)]
 pub(crate) struct Odd {
     pub(crate) line: usize,
     pub(crate) field: usize,

@@ -20,7 +20,7 @@ const TOP_BIT: u64 = 9223372036854775808;
 const LOW_BITS: u64 = TOP_BIT - 1;
 
 // The amounts of a band, and its rate; or no band.
-#[derive(Drop)]
+#[derive(Clone, Copy)]
 pub enum Found {
     Range { from: u32, to: u64, rate: u32 },
     Nothing,

@@ -22,7 +22,7 @@ use query::entries;
 pub const SHEET_WORDS: usize = 1 + MOST_LINES + MOST_LINES;
 
 // The number of the check's answer, the number of lines or what the refusal names, and the amount that 14 and 15 name besides.
-#[derive(Drop)]
+#[derive(Clone, Copy)]
 pub struct Verdict {
     pub number: u32,
     pub word: u32,

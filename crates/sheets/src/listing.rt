@@ -12,14 +12,14 @@ use base::amounts::{MOST_LINES, MOST_RATE, MOST_SUM};
 use lines::band_lines::{Listed, read_band};
 
 // The first bad line's number, or how many lines there are.
-#[derive(Drop)]
+#[derive(Clone, Copy)]
 pub enum Listing {
     Bad(u32),
     Whole(usize),
 }
 
 // The place behind a line whose band was stored, or a bad line.
-#[derive(Drop)]
+#[derive(Clone, Copy)]
 enum Line {
     Stored(usize),
     Bad,

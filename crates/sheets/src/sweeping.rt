@@ -13,7 +13,7 @@ use base::amounts::MOST_SUM;
 use base::numbers::{ACCEPTED, GAP, OVERLAP};
 
 // What the sweep of one class finds: 0, or 14 or 15 with the amount; and the place where it stopped.
-#[derive(Drop)]
+#[derive(Clone, Copy)]
 pub struct Part {
     pub number: u32,
     pub amount: u32,

@@ -9,57 +9,56 @@ use borrow.Author.Tests.{ltb-false, ltb-true}
 use lib.ListN.{length, take, drop, length-take, length-drop}
 use Rattle.tree.specs.Forest.{levels, forest_size}
 use Rattle.shapes.proofs.RankTurns.{part-levels, part-fits, levels-part, levels-count}
-use Rattle.shapes.proofs.numbering.number.Statement.{statement}
-use Rattle.shapes.proofs.numbering.number.Tie as tie
+use Rattle.shapes.proofs.numbering.number.Goals as goal
 
-sub-if4 : tie.Need-overflow-sub-if4
-sub-if4 c = search rules
+pub overflow_sub-depths : goal.overflow_sub-depths
+overflow_sub-depths c = search rules
 
-cast-if4 : tie.Need-overflow-cast-if4
-cast-if4 c = search rules
+pub overflow_cast-from : goal.overflow_cast-from
+overflow_cast-from c = search rules
 
 -- a group's depths pass each test
-returns : tie.Need-returns
-returns c =
-    let a = c.before.before.args in (
+pub returns-then-entries-eq0 : goal.returns-then-entries-eq0
+returns-then-entries-eq0 c =
+    let a = c.args in (
       (λ f d rest e n b.
           let h : a.from.0 + suc (forest_size f) ≤ length a.depths.now = part-fits a.depths.now a.from.0 f d rest e in
           absurd
           (⊎_elim
           (λ w. omega arith)
           (⊎_elim (λ w. omega (arith, ltb-true)) (⊎_elim (λ w. omega (arith, ltb-true)) (λ w. omega (arith, ltb-true))))
-          c.if1.branch)),
+          c.then-entries-eq0.branch)),
       (omega arith, λ never. refl),
     )
 
 -- what the tests leave is a part of the depths, which is the group's
-cast-end : tie.Need-overflow-cast-end
-cast-end c = search rules
+pub overflow_cast-end : goal.overflow_cast-end
+overflow_cast-end c = search rules
 
-add-end : tie.Need-overflow-add-end
-add-end c = omega (arith, ltb-false)
+pub overflow_add-end : goal.overflow_add-end
+overflow_add-end c = omega (arith, ltb-false)
 
-cast-ranked : tie.Need-overflow-cast-ranked
-cast-ranked c = search rules
+pub overflow_cast-from-2 : goal.overflow_cast-from-2
+overflow_cast-from-2 c = search rules
 
-mul-ranked : tie.Need-overflow-mul-ranked
-mul-ranked c = omega (arith, ltb-false)
+pub offset_bounds-depths-from : goal.offset_bounds-depths-from
+offset_bounds-depths-from c = omega (arith, ltb-false)
 
-sub-ranked : tie.Need-overflow-sub-ranked
-sub-ranked c = search rules
+pub slice_bounds-ranked-count : goal.slice_bounds-ranked-count
+slice_bounds-ranked-count c = search rules
 
-part-ranked-start : tie.Need-slice-bounds-ranked-start
-part-ranked-start c = search rules
+pub slice_bounds-ranked-start : goal.slice_bounds-ranked-start
+slice_bounds-ranked-start c = search rules
 
-part-ranked-end : tie.Need-slice-bounds-ranked-end
-part-ranked-end c = omega (arith, ltb-false)
+pub slice_bounds-ranked-end : goal.slice_bounds-ranked-end
+slice_bounds-ranked-end c = omega (arith, ltb-false)
 
-ranked-requires : tie.Need-ranked-requires
-ranked-requires c κs = simp (length-take, length-drop) (omega (arith, ltb-false))
+pub ranked-requires : goal.ranked-requires
+ranked-requires c = simp (length-take, length-drop) (omega (arith, ltb-false))
 
-returns-2 : tie.Need-returns-2
-returns-2 c =
-    let a = c.before.before.before.before.before.before.before.before.before.before.args in (
+pub returns : goal.returns
+returns c =
+    let a = c.args in (
       (λ f d rest e n b.
           let k : a.from.0 + a.entries - a.from.0 ≡ suc (forest_size f) = omega arith in
           c.ranked.ensures.is f d (rw k (part-levels a.depths.now a.from.0 f d rest e))),
@@ -73,8 +72,3 @@ returns-2 c =
             never f d _ (levels-part a.depths.now a.from.0 a.entries f d q) (levels-count a.depths.now a.from.0 a.entries f d q (omega (arith, ltb-false))) (omega (arith, ltb-false))),
       ),
     )
-
-pub number-spec : {M : Type 1} → statement M
-number-spec =
-    tie.close
-    (tie.spec sub-if4 cast-if4 returns cast-end add-end cast-ranked mul-ranked sub-ranked part-ranked-start part-ranked-end ranked-requires returns-2)

@@ -3,14 +3,12 @@ use mathlib.Core.Path.{◌≡◌, refl, sym, ap, ◌∙◌}
 use mathlib.Core.List.{List}
 use Prim.Native.Nat.{ℕ, ◌<◌}
 use lib.ListN.{length, get_or}
-use borrow.Author.Rules.{rules}
 use Rattle.base.specs.Limits.{group_limit}
 use Rattle.base.specs.Lists.{each, below}
 use Rattle.base.proofs.Lists.{below_at}
 use Rattle.shapes.specs.Walks.{shapes}
 use Rattle.shapes.specs.Packed.{byte}
-use Rattle.shapes.proofs.numbering.smaller.Statement.{statement}
-use Rattle.shapes.proofs.numbering.smaller.Tie as tie
+use Rattle.shapes.proofs.numbering.smaller.Goals as goal
 
 abbrev word : ℕ
 word = 0x41170904020100
@@ -22,11 +20,5 @@ all = refl
 at : (m : ℕ) → m < group_limit → byte word m ≡ length (shapes m)
 at m h = sym (below_at group_limit (byte word) 0 m h) ∙ ap (λ l. get_or l m 0) all ∙ below_at group_limit (λ k. length (shapes k)) 0 m h
 
-pub smaller-spec : {M : Type 1} → statement M
-smaller-spec =
-    tie.close
-    (tie.spec
-    (λ c. search rules)
-    (λ c κs. search rules)
-    (λ c. search rules)
-    (λ c. c.byte.ensures ∙ at _ c.before.requires))
+pub returns : goal.returns
+returns c = c.byte.ensures ∙ at _ c.requires
