@@ -23,7 +23,7 @@ returns-then-local-ge-LOCAL_SPAN c =
 pub returns-then-word-eq0 : goal.returns-then-word-eq0
 returns-then-word-eq0 c =
     let word = c.fields-word in
-    field-packs _ _ _ 0 word.ensures.0 word.ensures.1 (omega arith) (no_field _ _ c.if-word-eq0.true)
+    field-packs _ _ _ 0 word.ensures.rows word.ensures.outs (omega arith) (no_field _ _ c.if-word-eq0.true)
 
 pub returns : goal.returns
-returns c = let word = c.fields-word.ensures in field-packs _ _ _ _ word.0 word.1 (omega arith) c.field.ensures
+returns c = let word = c.fields-word.ensures in field-packs _ _ _ _ word.rows word.outs (omega arith) c.field.ensures

@@ -15,4 +15,5 @@ both s e = (e, subst⁻¹ (Rule group_limit s) e (rule group_limit (omega arith)
 
 pub returns : goal.returns
 unfolding rows_of
-returns c = both _ (seven _ c.row.ensures c.row-2.ensures c.row-3.ensures c.row-4.ensures c.row-5.ensures c.row-6.ensures c.row-7.ensures)
+returns c =
+    let all = both _ (seven _ c.row.ensures c.row-2.ensures c.row-3.ensures c.row-4.ensures c.row-5.ensures c.row-6.ensures c.row-7.ensures) in record { table = all.0; rule = all.1 }

@@ -91,14 +91,14 @@ byte-requires-in-loop-i c = omega (arith, c.loop-i.invariant.low)
 
 pub overflow_sub-before : goal.overflow_sub-before
 overflow_sub-before c =
-    c.before.before.before in turn e.before.before.before.before.loop.invariant c.ways-ways.result e.before.before.before.loop-test.true e.before.if1.false e.if2.false c.ways-ways.ensures c.byte.ensures c.byte-in-loop-i.ensures).fewer
+    (turn c.loop-i.invariant c.ways-ways.result c.loop-i-test.true c.if-depth-root.false c.if-at-below.false c.ways-ways.ensures c.byte.ensures c.byte-in-loop-i.ensures).fewer
 
 pub overflow_cast-sum : goal.overflow_cast-sum
 overflow_cast-sum c = omega arith
 
 pub overflow_add-sum : goal.overflow_add-sum
 overflow_add-sum c =
-    c.before.before.before in turn e.before.before.before.before.loop.invariant c.ways-ways.result e.before.before.before.loop-test.true e.before.if1.false e.if2.false c.ways-ways.ensures c.byte.ensures c.byte-in-loop-i.ensures).fits)
+    omega (arith, (turn c.loop-i.invariant c.ways-ways.result c.loop-i-test.true c.if-depth-root.false c.if-at-below.false c.ways-ways.ensures c.byte.ensures c.byte-in-loop-i.ensures).fits)
 
 pub overflow_add-i : goal.overflow_add-i
 overflow_add-i c = omega arith
@@ -108,7 +108,7 @@ loop-i-smaller c = omega arith
 
 pub loop-i-preserved : goal.loop-i-preserved
 loop-i-preserved c =
-    c.before.before.before in turn e.before.before.before.before.loop.invariant c.ways-ways.result e.before.before.before.loop-test.true e.before.if1.false e.if2.false c.ways-ways.ensures c.byte.ensures c.byte-in-loop-i.ensures).next
+    (turn c.loop-i.invariant c.ways-ways.result c.loop-i-test.true c.if-depth-root.false c.if-at-below.false c.ways-ways.ensures c.byte.ensures c.byte-in-loop-i.ensures).next
 
 pub returns : goal.returns
 returns c = done c.loop-i.invariant c.loop-i-test.false
