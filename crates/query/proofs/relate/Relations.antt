@@ -3,7 +3,7 @@ use Rattle.std.proofs.Common.{◌≡◌, ℕ, ◌+◌, ◌-◌, ◌<◌, ◌≤�
 use native.Mathlib.Decide.{dec_lt}
 use borrow.Author.Tests.{lt-leb}
 use Rattle.base.specs.Numbers.{Outcome}
-use Rattle.answers.specs.Reading.{Reading, if_le, if_lt, and_then, run, trace}
+use Rattle.answers.specs.Reading.{Reading, if_le, if_lt, and_then, trace}
 use Rattle.answers.specs.Answers.{pushed_all, listed, answer_to, answer_from}
 use Rattle.answers.specs.Steps.{opened, compared, related}
 use Rattle.answers.specs.declared.Answer.{Answer}

@@ -1,0 +1,13 @@
+-- `level` meets its contract. Assumes nothing.
+use Rattle.std.proofs.Common.{◌∙◌}
+use Rattle.answers.specs.Steps.{level}
+use Rattle.answers.proofs.AnswerWords.{words_same}
+use Rattle.answers.proofs.Bounds.{level-within}
+use Rattle.answers.proofs.Numbers.{level-numbers}
+use Rattle.climbs.proofs.Questions.{level-right}
+use Rattle.query.proofs.Promises.{promised-of}
+use Rattle.query.proofs.level.Goals as goal
+
+pub returns : goal.returns
+returns c =
+    let args = c.args in let all = promised-of _ (λ len. level len args.v.0 args.d) _ _ _ (λ len. level-within len _ _) (λ len. level-numbers len _ _) _ (λ ps d. level-right ps _ d args.v.0 args.d) (words_same _ _ (c.of_words.ensures ∙ c.level_words.ensures)) in record { answer = all.0; numbers = all.1.0; few = all.1.1.0; local = all.1.1.1.0; right = all.1.1.1.1 }
