@@ -1,0 +1,21 @@
+-- `lists::copy` is safe and ends. Each slice keeps its length. Assumes nothing.
+use Rattle.std.proofs.Common.{refl, arith}
+use Rattle.samples.proofs.lists.copy.Goals as goal
+
+pub loop-i-init : goal.loop-i-init
+loop-i-init c = refl
+
+pub get-requires : goal.get-requires
+get-requires c = tt
+
+pub put-requires : goal.put-requires
+put-requires c = tt
+
+pub overflow_add-i : goal.overflow_add-i
+overflow_add-i c = omega arith
+
+pub loop-i-smaller : goal.loop-i-smaller
+loop-i-smaller c = omega arith
+
+pub returns : goal.returns
+returns c = tt

@@ -1,0 +1,18 @@
+-- `lists::count_up` is safe and ends. Each slice keeps its length. Assumes nothing.
+use Rattle.std.proofs.Common.{refl, arith}
+use Rattle.samples.proofs.lists.count_up.Goals as goal
+
+pub loop-i-init : goal.loop-i-init
+loop-i-init c = refl
+
+pub put-requires : goal.put-requires
+put-requires c = tt
+
+pub overflow_add-i : goal.overflow_add-i
+overflow_add-i c = omega arith
+
+pub loop-i-smaller : goal.loop-i-smaller
+loop-i-smaller c = omega arith
+
+pub returns : goal.returns
+returns c = tt
