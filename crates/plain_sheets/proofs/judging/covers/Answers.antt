@@ -1,0 +1,24 @@
+-- `judging::covers` is safe and ends. Assumes nothing.
+use native.Mathlib.Omega.{arith}
+use Rattle.plain_sheets.proofs.judging.covers.Goals as goal
+
+pub loop-i-init : goal.loop-i-init
+loop-i-init c = tt
+
+pub held-requires : goal.held-requires
+held-requires c = tt
+
+pub add-count-requires : goal.add-count-requires
+add-count-requires c = tt
+
+pub overflow_add-i : goal.overflow_add-i
+overflow_add-i c = omega arith
+
+pub loop-i-smaller : goal.loop-i-smaller
+loop-i-smaller c = omega arith
+
+pub loop-i-preserved : goal.loop-i-preserved
+loop-i-preserved c = tt
+
+pub returns : goal.returns
+returns c = tt
