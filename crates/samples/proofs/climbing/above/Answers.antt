@@ -7,18 +7,6 @@ pub loop-i-init : goal.loop-i-init
 unfolding word_above
 loop-i-init c = (omega arith, refl)
 
-pub get-at-requires : goal.get-at-requires
-unfolding word_above
-get-at-requires c = tt
-
-pub overflow_add-i : goal.overflow_add-i
-unfolding word_above
-overflow_add-i c = omega arith
-
-pub loop-i-smaller : goal.loop-i-smaller
-unfolding word_above
-loop-i-smaller c = omega arith
-
 pub loop-i-preserved : goal.loop-i-preserved
 unfolding word_above
 loop-i-preserved c = (omega arith, rw add-one (cc))

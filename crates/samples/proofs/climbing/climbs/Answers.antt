@@ -7,21 +7,9 @@ pub loop-k-init : goal.loop-k-init
 unfolding word_above
 loop-k-init c = (omega arith, refl, below_none _)
 
-pub get-at-requires : goal.get-at-requires
-unfolding word_above
-get-at-requires c = tt
-
 pub returns-then-at-eq-TOP : goal.returns-then-at-eq-TOP
 unfolding word_above
 returns-then-at-eq-TOP c = record { within = omega arith; top = λ _. cc; before = c.loop-k.invariant.2 }
-
-pub overflow_add-k : goal.overflow_add-k
-unfolding word_above
-overflow_add-k c = omega arith
-
-pub loop-k-smaller : goal.loop-k-smaller
-unfolding word_above
-loop-k-smaller c = omega arith
 
 pub loop-k-preserved : goal.loop-k-preserved
 unfolding word_above

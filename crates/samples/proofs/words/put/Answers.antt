@@ -3,9 +3,6 @@ use Rattle.std.proofs.Common.{sym}
 use lib.Seq.{set_out}
 use Rattle.samples.proofs.words.put.Goals as goal
 
-pub narrow-requires : goal.narrow-requires
-narrow-requires c = tt
-
 pub returns-then-i-a : goal.returns-then-i-a
 returns-then-i-a c = rw c.narrow.ensures
 

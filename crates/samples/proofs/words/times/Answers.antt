@@ -6,15 +6,6 @@ use Rattle.samples.proofs.words.times.Goals as goal
 pub loop-k-init : goal.loop-k-init
 loop-k-init c = (omega arith, simp (mul-zero, zero-mod))
 
-pub add-sum-requires : goal.add-sum-requires
-add-sum-requires c = tt
-
-pub overflow_add-k : goal.overflow_add-k
-overflow_add-k c = omega arith
-
-pub loop-k-smaller : goal.loop-k-smaller
-loop-k-smaller c = omega arith
-
 pub loop-k-preserved : goal.loop-k-preserved
 loop-k-preserved c = (omega arith, rw (add-one, mul-suc, ← mod-add-mod) (cc))
 
