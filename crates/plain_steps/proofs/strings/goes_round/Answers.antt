@@ -23,17 +23,8 @@ loop-rest-preserved c =
 pub loop-rest-init : goal.loop-rest-init
 loop-rest-init c = start _ (search rules)
 
-pub add-open-requires : goal.add-open-requires
-add-open-requires c = tt
-
 pub returns-then-open-eq0 : goal.returns-then-open-eq0
 returns-then-open-eq0 c = none _ _ _ c.loop-rest.invariant c.loop-rest-test.true c.if-rest-eq1.false c.if-open-eq0.true
-
-pub less-open-requires : goal.less-open-requires
-less-open-requires c = tt
-
-pub loop-rest-smaller : goal.loop-rest-smaller
-loop-rest-smaller c = omega arith
 
 pub returns : goal.returns
 returns c = ended _ _ _ c.loop-rest.invariant (omega arith)

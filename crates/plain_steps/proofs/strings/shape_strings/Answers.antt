@@ -10,12 +10,6 @@ loop-string-init c = (search rules, omega arith, start)
 pub noted-at-requires : goal.noted-at-requires
 noted-at-requires c = (omega arith, omega (arith, small _ _ _ c.loop-string.invariant.2))
 
-pub overflow_add-string : goal.overflow_add-string
-overflow_add-string c = omega arith
-
-pub loop-string-smaller : goal.loop-string-smaller
-loop-string-smaller c = omega arith
-
 pub loop-string-preserved : goal.loop-string-preserved
 loop-string-preserved c =
     (search rules, omega arith, stepped _ _ _ c.loop-string.invariant.2 (omega arith) _ _ c.noted-at.ensures.with c.noted-at.ensures.without)

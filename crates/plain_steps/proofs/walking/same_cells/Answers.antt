@@ -11,12 +11,6 @@ loop-i-init c = (omega arith, below_none _)
 pub returns-then-a-i : goal.returns-then-a-i
 returns-then-a-i c = (λ e. absurd (false≢true e), λ s. absurd (c.if-a-i.true (s _ (omega arith))))
 
-pub overflow_add-i : goal.overflow_add-i
-overflow_add-i c = omega arith
-
-pub loop-i-smaller : goal.loop-i-smaller
-loop-i-smaller c = omega arith
-
 pub loop-i-preserved : goal.loop-i-preserved
 loop-i-preserved c = (omega arith, below_more _ _ c.loop-i.invariant.1 (omega arith))
 

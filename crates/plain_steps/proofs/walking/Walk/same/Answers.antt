@@ -3,26 +3,14 @@ use mathlib.Core.Bool.{false≢true}
 use native.Mathlib.Omega.{arith}
 use Rattle.plain_steps.proofs.walking.Walk.same.Goals as goal
 
-pub wide-requires : goal.wide-requires
-wide-requires c = tt
-
 pub returns-then-self-wide : goal.returns-then-self-wide
 returns-then-self-wide c = (λ e. absurd (false≢true e), λ s. absurd (c.if-self-wide.true (omega arith)))
-
-pub wide-requires-2 : goal.wide-requires-2
-wide-requires-2 c = tt
 
 pub returns-then-self-wide-2 : goal.returns-then-self-wide-2
 returns-then-self-wide-2 c = (λ e. absurd (false≢true e), λ s. absurd (c.if-self-wide-2.true (omega arith)))
 
-pub wide-requires-3 : goal.wide-requires-3
-wide-requires-3 c = tt
-
 pub returns-then-self-wide-3 : goal.returns-then-self-wide-3
 returns-then-self-wide-3 c = (λ e. absurd (false≢true e), λ s. absurd (c.if-self-wide-3.true (omega arith)))
-
-pub same_cells-requires : goal.same_cells-requires
-same_cells-requires c = tt
 
 pub returns : goal.returns
 returns c =
