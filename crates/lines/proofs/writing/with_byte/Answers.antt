@@ -3,11 +3,7 @@ use mathlib.Core.Path.{refl}
 use native.Mathlib.Numerals.{add-one}
 use lib.Seq.{take-suc-set}
 use borrow.Author.Rules.{rules}
-use Rattle.lines.proofs.writing.with_byte.Statement.{statement}
-use Rattle.lines.proofs.writing.with_byte.Tie as tie
+use Rattle.lines.proofs.writing.with_byte.Goals as goal
 
-returns : tie.Need-returns
+pub returns : goal.returns
 returns c = (refl, rw add-one (take-suc-set c.args.text.bytes c.args.text.count c.args.b (search rules)))
-
-pub with-byte-spec : {M : Type 1} → statement M
-with-byte-spec = tie.close (tie.spec (λ c. search rules) (λ c. search rules) returns)
