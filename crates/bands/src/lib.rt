@@ -1,3 +1,2 @@
 // The bands of a sheet: definitions and theorems, no functions.
 #![tactic(auto)]
-

@@ -2,14 +2,13 @@
 use mathlib.Core.Path.{◌≡◌, refl, sym, ap, ◌∙◌}
 use mathlib.Core.Logic.{◌⊎◌, inl, inr}
 use mathlib.Core.List.{List, [], ◌∷◌, ◌++◌}
-use mathlib.Core.Bool.{Bool, true, false, not, cond}
+use mathlib.Core.Bool.{Bool, true, false, cond}
 use mathlib.Core.Option.{Option, none, some, bind}
 use Prim.Native.Nat.{ℕ, ◌-◌}
 use native.Mathlib.Omega.{arith}
 use lib.ListN.{length, get_or, drop, length-drop}
 use lib.Seq.{take_all}
-use lib.Dec.{eqb}
-use borrow.Author.Tests.{not-true, not-false}
+use borrow.Author.Tests.{eq-eqb, ne_eqb}
 use Rattle.base.specs.Limits.{top_mark}
 use Rattle.lines.specs.Text.{comma, dash}
 use Rattle.lines.specs.Fields.{is_number, number, single, count_of, parent_field, parent_of}
@@ -29,11 +28,11 @@ count-is line =
     ∙ ap (λ o. cond (headed 78 line) o none) (single-read number number-comma (drop 2 line))
 
 module _ (line : List ℕ) (r : Bool) (is : r ≡ headed 78 line) where
-  pub count_none : not r ≡ true → none ≡ count_of line
-  count_none t = rw (count-is line, sym is ∙ not-true r t)
+  pub count_none : r ≡ false → none ≡ count_of line
+  count_none t = rw (count-is line, sym is ∙ t)
 
-  pub count-read : not r ≡ false → (o : Option ℕ) → o ≡ number (part 2 (length line) line) → o ≡ count_of line
-  count-read t o h = rw (h, count-is line, sym is ∙ not-false r t, part-rest 2 line)
+  pub count-read : r ≡ true → (o : Option ℕ) → o ≡ number (part 2 (length line) line) → o ≡ count_of line
+  count-read t o h = rw (h, count-is line, sym is ∙ t, part-rest 2 line)
 
 -- `P,parent`
 parent-comma : (f g : List ℕ) → parent_field (f ++ (comma ∷ g)) ≡ none
@@ -50,16 +49,16 @@ parent_is line =
     ∙ ap (λ o. cond (headed 80 line) o none) (single-read parent_field parent-comma (drop 2 line))
 
 -- a field that is a dash alone, or not
-parent-dash : (line : List ℕ) → length line ≡ 3 → eqb (get_or line 2 0) dash ≡ true → parent_field (drop 2 line) ≡ some top_mark
+parent-dash : (line : List ℕ) → length line ≡ 3 → get_or line 2 0 ≡ dash → parent_field (drop 2 line) ≡ some top_mark
 unfolding parent_field
 parent-dash [] e q = absurd (omega arith)
 parent-dash (a ∷ []) e q = absurd (omega arith)
 parent-dash (a ∷ b ∷ []) e q = absurd (omega arith)
-parent-dash (a ∷ b ∷ c ∷ []) e q = rw q
+parent-dash (a ∷ b ∷ c ∷ []) e q = rw (eq-eqb c dash q)
 parent-dash (a ∷ b ∷ c ∷ d ∷ l) e q = absurd (omega arith)
 
 abbrev NoDash : List ℕ → Type 0
-NoDash line = (length line ≡ 3 → ⊥) ⊎ (eqb (get_or line 2 0) dash ≡ false)
+NoDash line = (length line ≡ 3 → ⊥) ⊎ (get_or line 2 0 ≡ dash → ⊥)
 
 parent-plain : (line : List ℕ) → NoDash line → parent_field (drop 2 line) ≡ number (drop 2 line)
 unfolding parent_field number is_number
@@ -67,15 +66,15 @@ parent-plain [] n = refl
 parent-plain (a ∷ []) n = refl
 parent-plain (a ∷ b ∷ []) n = refl
 parent-plain (a ∷ b ∷ c ∷ []) (inl n) = absurd (n refl)
-parent-plain (a ∷ b ∷ c ∷ []) (inr q) = rw q
+parent-plain (a ∷ b ∷ c ∷ []) (inr q) = rw (ne_eqb c dash q)
 parent-plain (a ∷ b ∷ c ∷ d ∷ l) n = refl
 
 module _ (line : List ℕ) (r : Bool) (is : r ≡ headed 80 line) where
-  pub parent-none : not r ≡ true → none ≡ parent_of line
-  parent-none t = rw (parent_is line, sym is ∙ not-true r t)
+  pub parent-none : r ≡ false → none ≡ parent_of line
+  parent-none t = rw (parent_is line, sym is ∙ t)
 
-  pub parent-top : not r ≡ false → length line ≡ 3 → eqb (get_or line 2 0) dash ≡ true → some top_mark ≡ parent_of line
-  parent-top t e q = rw (parent_is line, sym is ∙ not-false r t, parent-dash line e q)
+  pub parent-top : r ≡ true → length line ≡ 3 → get_or line 2 0 ≡ dash → some top_mark ≡ parent_of line
+  parent-top t e q = rw (parent_is line, sym is ∙ t, parent-dash line e q)
 
-  pub parent-read : not r ≡ false → NoDash line → (o : Option ℕ) → o ≡ number (part 2 (length line) line) → o ≡ parent_of line
-  parent-read t n o h = rw (h, parent_is line, sym is ∙ not-false r t, part-rest 2 line) (sym (parent-plain line n))
+  pub parent-read : r ≡ true → NoDash line → (o : Option ℕ) → o ≡ number (part 2 (length line) line) → o ≡ parent_of line
+  parent-read t n o h = rw (h, parent_is line, sym is ∙ t, part-rest 2 line) (sym (parent-plain line n))

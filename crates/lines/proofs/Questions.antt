@@ -1,12 +1,11 @@
 -- What a line of a question says. Assumes nothing.
 use mathlib.Core.Path.{◌≡◌, refl, sym, ap, ◌∙◌}
 use mathlib.Core.List.{List, [], ◌∷◌, ◌++◌}
-use mathlib.Core.Bool.{Bool, true, false, not, cond}
+use mathlib.Core.Bool.{Bool, true, false, cond}
 use mathlib.Core.Option.{Option, none, some, map, bind}
 use Prim.Native.Nat.{ℕ, ◌+◌, ◌≤◌, ◌<◌}
 use native.Mathlib.Omega.{arith}
 use lib.ListN.{length, drop}
-use borrow.Author.Tests.{not-true, not-false}
 use Rattle.lines.specs.Text.{comma}
 use Rattle.lines.specs.Fields.{fields, number, single, Question, asked, question_of}
 use Rattle.lines.specs.Results.{headed, NextByte, part}
@@ -46,12 +45,12 @@ unfolding question_of asked
 question-is line = headed-read 81 (λ e. omega arith) asked refl line
 
 module _ (line : List ℕ) (r : Bool) (is : r ≡ headed 81 line) where
-  pub question-none : not r ≡ true → none ≡ question_of line
-  question-none t = rw (question-is line, sym is ∙ not-true r t)
+  pub question-none : r ≡ false → none ≡ question_of line
+  question-none t = rw (question-is line, sym is ∙ t)
 
-  module _ (t : not r ≡ false) (c : ℕ) (next : NextByte line comma 2 c) where
+  module _ (t : r ≡ true) (c : ℕ) (next : NextByte line comma 2 c) where
     asked_is : question_of line ≡ asked (fields (drop 2 line))
-    asked_is = rw (question-is line, sym is ∙ not-false r t)
+    asked_is = rw (question-is line, sym is ∙ t)
 
     pub question-short : length line ≤ c → none ≡ question_of line
     unfolding asked

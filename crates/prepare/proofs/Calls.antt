@@ -2,7 +2,7 @@
 use mathlib.Core.Path.{◌≡◌, refl, sym, ap, ◌∙◌}
 use mathlib.Core.List.{List, ◌++◌}
 use mathlib.Core.Option.{Option, none, some, Option-elim, or_else}
-use Prim.Native.Nat.{ℕ, ◌+◌, ◌*◌, ◌-◌, ◌≤◌, ◌<◌}
+use Prim.Native.Nat.{ℕ, ◌+◌, ◌-◌, ◌≤◌, ◌<◌}
 use native.Mathlib.Omega.{arith}
 use borrow.Author.Tests.{lt-ltb, le-ltb}
 use borrow.Rule.Slice.PartMut.{mid_of, post_of, mid_len, put_same}
@@ -13,7 +13,7 @@ use Rattle.base.specs.Limits.{most_entries, table_words, space_words}
 use Rattle.base.proofs.Views.{view-front}
 use Rattle.tree.specs.Faults.{Tree, list_fault}
 use Rattle.table.specs.Table.{table_of}
-use Rattle.table.specs.Preparing.{count_fault, table_fault, space_fault, lend_fault, call_fault, refusal, preparing, table_after, space_after, judging, judged_space}
+use Rattle.table.specs.Preparing.{count_fault, table_fault, lend_fault, call_fault, refusal, preparing, table_after, space_after, judging, judged_space}
 use Rattle.table.proofs.Outcomes.{judging-none}
 use Rattle.judge.specs.Regions.{Ordered}
 use Rattle.prepare.specs.Stages.{Walked}

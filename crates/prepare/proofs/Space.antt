@@ -5,7 +5,7 @@ use mathlib.Core.List.{List, [], ◌∷◌}
 use Prim.Native.Nat.{ℕ, ◌+◌, ◌*◌, ◌≤◌, ◌<◌}
 use native.Mathlib.Omega.{arith}
 use lib.ListN.{length, get_or, set}
-use Rattle.base.specs.Lists.{view, put}
+use Rattle.base.specs.Lists.{put}
 use Rattle.base.proofs.Puts.{put-length, Apart, stays, set-put}
 use Rattle.base.proofs.Views.{view-at}
 use Rattle.prepare.specs.Arrays.{entry_at}

@@ -10,7 +10,7 @@ use lib.ListN.{length}
 use lib.Dec.{leb}
 use borrow.Author.Tests.{le-leb, lt-leb}
 use Rattle.base.specs.Limits.{most_entries, top_mark}
-use Rattle.base.specs.Lists.{keep, place}
+use Rattle.base.specs.Lists.{keep}
 use Rattle.base.proofs.Filters.{keep_append, keep-none, keep-alike, keep_all}
 use Rattle.tree.specs.Parents.{word, parent, children}
 use Rattle.tree.specs.Forest.{Forest, empty, node, plant, forest_size, forest_height, tallest, under, height, position}
