@@ -4,5 +4,6 @@ pub mod Theorems
 pub mod Trials
 pub mod Halving
 pub mod Narrowing
+pub mod Standing
 pub mod Ends
 pub mod Replies
