@@ -5,8 +5,8 @@ ghost use Rattle.counter_stream.specs.Fitness.{lent};
 ghost use Rattle.counter_stream.specs.Pieces.{Buffers};
 
 use counter_stream::{State, feed, finish, is_at_end, start};
-use libc::{STDERR_FILENO, STDIN_FILENO, STDOUT_FILENO};
 use lines::room::{LINE_ROOM, LIST_ROOM, SPACE_ROOM, TABLE_ROOM};
+use std::io::Read;
 
 // The state behind a piece of the input, and whether all that it printed was written.
 #[derive(Clone, Copy)]
@@ -15,7 +15,7 @@ struct Went {
     ok: bool,
 }
 
-fn main() {
+fn main(rt: HostRuntime) {
     let mut parents = [0u32; LIST_ROOM];
     let mut table = [0u32; TABLE_ROOM];
     let mut space = [0u32; SPACE_ROOM];
@@ -23,6 +23,7 @@ fn main() {
     let mut input = [0u8; 65536];
     let mut out = [0u8; 65536];
     run(
+        &rt,
         &mut input,
         &mut line,
         &mut out,
@@ -34,6 +35,7 @@ fn main() {
 
 // Nothing says that the input ends: the turns are counted down from a number that no run uses up.
 fn run(
+    rt: &(impl Input + Print + Eprint),
     input: &mut [u8],
     line: &mut [u8],
     out: &mut [u8],
@@ -43,10 +45,11 @@ fn run(
 )
     requires { Buffers (lent line.old parents.old table.old space.old) out.old }
 {
+    let mut reader = rt.reader();
     let mut state = start();
     let mut turns = u64::MAX;
     while turns > 0 {
-        let went = turn(state, input, line, out, parents, table, space);
+        let went = turn(rt, &mut reader, state, input, line, out, parents, table, space);
         state = went.state;
         if !went.ok || is_at_end(state) {
             return;
@@ -56,7 +59,9 @@ fn run(
 }
 
 // Reads once, and answers the state behind what was read, and whether to go on.
-fn turn(
+fn turn<R: Read>(
+    rt: &(impl Print + Eprint),
+    reader: &mut R,
     state: State,
     input: &mut [u8],
     line: &mut [u8],
@@ -68,23 +73,25 @@ fn turn(
     requires { Buffers (lent line.old parents.old table.old space.old) out.old }
 {
     let stop = Went { state, ok: false };
-    let got = libc::read(STDIN_FILENO, input);
-    if got < 0 {
-        io::write_all(STDERR_FILENO, b"counter: standard input cannot be read\n");
+    let n = match reader.read(input) {
+        Ok(n) => n,
+        Err(_) => {
+            let _ = rt.eprintln("counter: standard input cannot be read");
+            return stop;
+        }
+    };
+    if n == 0 {
+        report(rt, end(rt, state, out));
         return stop;
     }
-    if got == 0 {
-        report(end(state, out));
-        return stop;
-    }
-    let n = io::count(got, input);
-    let went = piece(state, &input[..n], line, out, parents, table, space);
-    report(went.ok);
+    let went = piece(rt, state, &input[..n], line, out, parents, table, space);
+    report(rt, went.ok);
     went
 }
 
 // Reads a piece and writes what it prints.
 fn piece(
+    rt: &impl Print,
     state: State,
     input: &[u8],
     line: &mut [u8],
@@ -102,7 +109,7 @@ fn piece(
         at = fed.state;
         from += fed.used;
         let written = fed.written;
-        if !io::write_all(STDOUT_FILENO, &out[..written]) {
+        if rt.write_all(&out[..written]).is_err() {
             return Went {
                 state: at,
                 ok: false,
@@ -116,17 +123,14 @@ fn piece(
 }
 
 // Writes what the end of the input prints.
-fn end(state: State, out: &mut [u8]) -> bool {
+fn end(rt: &impl Print, state: State, out: &mut [u8]) -> bool {
     let n = finish(state, out);
-    io::write_all(STDOUT_FILENO, &out[..n])
+    rt.write_all(&out[..n]).is_ok()
 }
 
 // Says that the output could not be written, if so.
-fn report(is_written: bool) {
+fn report(rt: &impl Eprint, is_written: bool) {
     if !is_written {
-        io::write_all(
-            STDERR_FILENO,
-            b"counter: standard output cannot be written\n",
-        );
+        let _ = rt.eprintln("counter: standard output cannot be written");
     }
 }

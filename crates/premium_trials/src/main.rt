@@ -14,6 +14,7 @@ use plain_steps::shape_strings;
 use samples::cases::{GROWN, case_at, count_at};
 use samples::tally::Tally;
 use samples::words::{TOP, add, less, put};
+use std::io;
 
 const LINES: usize = 10;
 
@@ -107,28 +108,36 @@ fn line_tally(
 }
 
 fn run(
+    rt: &impl Print,
     parents: &mut [u32],
     table: &mut [u32],
     space: &mut [u32],
     rates: &mut [u32],
     strings: &[u32],
-) {
+) -> io::Result<()> {
     let mut total = Tally::new();
     let mut line = 0;
     while line < LINES {
         let tally = line_tally(line, parents, table, space, rates, strings);
-        say(line, tally);
+        say(rt, line, tally)?;
         total = total.plus(tally);
         line += 1;
     }
-    say(LINES, total);
+    say(rt, LINES, total)
 }
 
-fn main() {
+fn main(rt: HostRuntime) -> io::Result<()> {
     let mut parents = [0u32; 512];
     let mut table = [0u32; 6983];
     let mut space = [0u32; 3075];
     let mut rates = [0u32; 512];
     let strings = shape_strings();
-    run(&mut parents, &mut table, &mut space, &mut rates, &strings);
+    run(
+        &rt,
+        &mut parents,
+        &mut table,
+        &mut space,
+        &mut rates,
+        &strings,
+    )
 }

@@ -16,6 +16,7 @@ use crate::compare::trial;
 use crate::printed::say;
 use samples::cases::{LINES, case_at, count_at};
 use samples::words::add;
+use std::io;
 
 // The differences in so many trials of a line.
 fn line_differences(
@@ -35,24 +36,29 @@ fn line_differences(
     sum
 }
 
-fn run(parents: &mut [u32], table: &mut [u32], space: &mut [u32]) {
+fn run(
+    rt: &impl Print,
+    parents: &mut [u32],
+    table: &mut [u32],
+    space: &mut [u32],
+) -> io::Result<()> {
     let mut trials = 0;
     let mut differences = 0;
     let mut line = 0;
     while line < LINES {
         let count = count_at(line);
         let d = line_differences(line, count, parents, table, space);
-        say(line, count, d);
+        say(rt, line, count, d)?;
         trials = add(trials, count);
         differences = add(differences, d);
         line += 1;
     }
-    say(LINES, trials, differences);
+    say(rt, LINES, trials, differences)
 }
 
-fn main() {
+fn main(rt: HostRuntime) -> io::Result<()> {
     let mut parents = [0u32; 512];
     let mut table = [0u32; 7440];
     let mut space = [0u32; 3091];
-    run(&mut parents, &mut table, &mut space);
+    run(&rt, &mut parents, &mut table, &mut space)
 }

@@ -1,21 +1,24 @@
 // A line of the output: a name, the number of trials and the number of differences.
 use samples::fields::field;
 use samples::words::less;
+use std::io;
 
-fn name(line: usize) {
+fn name(rt: &impl Print, line: usize) -> io::Result<()> {
     if line < 11 {
         let names = b"chain,star,random,caterpillar,binary,broom,deep,stray,tops,topless,loop,";
-        io::write_all(1, field(names, line));
+        rt.write_all(field(names, line))
     } else {
         let names = b"empty,short table,short space,any,grown,total,";
-        io::write_all(1, field(names, less(line, 11)));
+        rt.write_all(field(names, less(line, 11)))
     }
 }
 
-pub(crate) fn say(line: usize, count: usize, differences: usize) {
-    name(line);
-    io::print_decimal(1, count as u64);
-    io::write_all(1, b",");
-    io::print_decimal(1, differences as u64);
-    io::write_all(1, b"\n");
+pub(crate) fn say(
+    rt: &impl Print,
+    line: usize,
+    count: usize,
+    differences: usize,
+) -> io::Result<()> {
+    name(rt, line)?;
+    println!(rt; "{count},{differences}")
 }

@@ -20,6 +20,7 @@ use plain_steps::shape_strings;
 use samples::cases::{GROWN, KINDS, case_at, count_at};
 use samples::tally::Tally;
 use samples::words::{add, times};
+use std::io;
 
 // The lines of the output: the kinds, all small trees, forks, and the kinds with damaged tables.
 const FORKED: usize = 8;
@@ -168,22 +169,28 @@ fn line_tally(
     lists(GROWN, parents, table, space, strings)
 }
 
-fn run(parents: &mut [u32], table: &mut [u32], space: &mut [u32], strings: &[u32]) {
+fn run(
+    rt: &impl Print,
+    parents: &mut [u32],
+    table: &mut [u32],
+    space: &mut [u32],
+    strings: &[u32],
+) -> io::Result<()> {
     let mut total = Tally::new();
     let mut line = 0;
     while line < LINES {
         let tally = line_tally(line, parents, table, space, strings);
-        say(line, tally);
+        say(rt, line, tally)?;
         total = total.plus(tally);
         line += 1;
     }
-    say(LINES, total);
+    say(rt, LINES, total)
 }
 
-fn main() {
+fn main(rt: HostRuntime) -> io::Result<()> {
     let mut parents = [0u32; 512];
     let mut table = [0u32; 6983];
     let mut space = [0u32; 3075];
     let strings = shape_strings();
-    run(&mut parents, &mut table, &mut space, &strings);
+    run(&rt, &mut parents, &mut table, &mut space, &strings)
 }

@@ -2,22 +2,20 @@
 use samples::fields::field;
 use samples::tally::Tally;
 use samples::words::less;
+use std::io;
 
-fn name(line: usize) {
+fn name(rt: &impl Print, line: usize) -> io::Result<()> {
     if line < 9 {
         let names = b"chain,star,random,caterpillar,binary,broom,deep,grown,fork,";
-        io::write_all(1, field(names, line));
+        rt.write_all(field(names, line))
     } else {
         let names =
             b"damaged chain,damaged star,damaged random,damaged caterpillar,damaged binary,damaged broom,damaged deep,total,";
-        io::write_all(1, field(names, less(line, 9)));
+        rt.write_all(field(names, less(line, 9)))
     }
 }
 
-pub(crate) fn say(line: usize, tally: Tally) {
-    name(line);
-    io::print_decimal(1, tally.asked as u64);
-    io::write_all(1, b",");
-    io::print_decimal(1, tally.differences as u64);
-    io::write_all(1, b"\n");
+pub(crate) fn say(rt: &impl Print, line: usize, tally: Tally) -> io::Result<()> {
+    name(rt, line)?;
+    println!(rt; "{},{}", tally.asked, tally.differences)
 }

@@ -19,6 +19,7 @@ use samples::seeds::next;
 use samples::words::{add, less, times};
 use sheet_samples::texts::make_text;
 use sheet_samples::trees::{level, tree};
+use std::io;
 
 // The lines of the output: lists with a fault, and all small ones; each kind of trees and the small ones twice, for classes and for premiums; and the kinds of sheets without a
 // bad line.
@@ -312,14 +313,14 @@ fn try_line(line: usize) -> Count {
     try_sheets(less(more, TREES))
 }
 
-fn main() {
+fn main(rt: HostRuntime) -> io::Result<()> {
     let mut total = nothing();
     let mut line = 0;
     while line < LINES {
         let count = try_line(line);
-        say(line, count);
+        say(&rt, line, count)?;
         total = together(total, count);
         line += 1;
     }
-    say(LINES, total);
+    say(&rt, LINES, total)
 }

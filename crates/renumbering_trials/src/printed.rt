@@ -2,43 +2,44 @@
 use crate::comparing::Count;
 use samples::fields::field;
 use samples::words::less;
+use std::io;
 
-fn name(line: usize) {
+fn name(rt: &impl Print, line: usize) -> io::Result<()> {
     if line < 5 {
         let names =
             b"lists with stray words,lists with tops too many,lists without a top,lists with loops,lists of up to four words,";
-        io::write_all(1, field(names, line));
+        rt.write_all(field(names, line))
     } else {
-        asked(less(line, 5));
+        asked(rt, less(line, 5))
     }
 }
 
-fn asked(line: usize) {
+fn asked(rt: &impl Print, line: usize) -> io::Result<()> {
     if line < 8 {
         let names =
             b"classes of chains,classes of stars,classes of random trees,classes of caterpillars,classes of binary trees,classes of brooms,classes of deep trees,classes of small trees,";
-        io::write_all(1, field(names, line));
+        rt.write_all(field(names, line))
     } else if line < 16 {
         let names =
             b"premiums of chains,premiums of stars,premiums of random trees,premiums of caterpillars,premiums of binary trees,premiums of brooms,premiums of deep trees,premiums of small trees,";
-        io::write_all(1, field(names, less(line, 8)));
+        rt.write_all(field(names, less(line, 8)))
     } else {
         let names =
             b"good sheets,sheets of ten digits,sheets with an amount missing,sheets with an amount shared,sheets with an amount in three bands,sheets with a band inside another,sheets without a class,sheets with two faults,total,";
-        io::write_all(1, field(names, less(line, 16)));
+        rt.write_all(field(names, less(line, 16)))
     }
 }
 
-fn figure(x: usize, end: &[u8]) {
-    io::print_decimal(1, x as u64);
-    io::write_all(1, end);
+fn figure(rt: &impl Print, x: usize, end: &[u8]) -> io::Result<()> {
+    rt.print(x)?;
+    rt.write_all(end)
 }
 
-pub(crate) fn say(line: usize, count: Count) {
+pub(crate) fn say(rt: &impl Print, line: usize, count: Count) -> io::Result<()> {
     let tally = count.tally;
-    name(line);
-    figure(tally.asked, b",");
-    figure(tally.differences, b",");
-    figure(count.cells, b",");
-    figure(count.counts, b"\n");
+    name(rt, line)?;
+    figure(rt, tally.asked, b",")?;
+    figure(rt, tally.differences, b",")?;
+    figure(rt, count.cells, b",")?;
+    figure(rt, count.counts, b"\n")
 }

@@ -23,6 +23,7 @@ use sheet_samples::kinds::{BROKEN, KINDS};
 use sheet_samples::texts::make_text;
 use sheet_samples::trees::{asked_level, break_table, level, tree};
 use sheets::SHEET_WORDS;
+use std::io;
 
 // What stands in the words for a checked sheet before.
 const WORD: u64 = 18446744073709551557;
@@ -137,14 +138,14 @@ fn try_kind(kind: usize) -> Tally {
     tally
 }
 
-fn main() {
+fn main(rt: HostRuntime) -> io::Result<()> {
     let mut total = Tally::new();
     let mut kind = 0;
     while kind < KINDS {
         let tally = try_kind(kind);
-        say(kind, tally);
+        say(&rt, kind, tally)?;
         total = total.plus(tally);
         kind += 1;
     }
-    say(KINDS, total);
+    say(&rt, KINDS, total)
 }

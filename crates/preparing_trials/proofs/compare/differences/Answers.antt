@@ -1,0 +1,31 @@
+-- `compare::differences` is safe and ends. Assumes nothing.
+use Prim.Native.Nat.{◌-◌}
+use native.Mathlib.Omega.{arith}
+use Rattle.preparing_trials.proofs.compare.differences.Goals as goal
+
+pub loop-i-init : goal.loop-i-init
+loop-i-init c = tt
+
+pub get-requires : goal.get-requires
+get-requires c = tt
+
+pub get-requires-in-loop-i : goal.get-requires-in-loop-i
+get-requires-in-loop-i c = tt
+
+pub differ-requires : goal.differ-requires
+differ-requires c = tt
+
+pub add-count-requires : goal.add-count-requires
+add-count-requires c = tt
+
+pub overflow_add-i : goal.overflow_add-i
+overflow_add-i c = omega arith
+
+pub loop-i-smaller : goal.loop-i-smaller
+loop-i-smaller c = omega arith
+
+pub loop-i-preserved : goal.loop-i-preserved
+loop-i-preserved c = tt
+
+pub returns : goal.returns
+returns c = tt

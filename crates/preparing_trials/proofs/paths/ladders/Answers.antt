@@ -1,0 +1,23 @@
+-- `paths::ladders` is safe and ends. Each slice keeps its length. Assumes nothing.
+use mathlib.Core.Path.{refl}
+use Prim.Native.Nat.{◌-◌}
+use native.Mathlib.Omega.{arith}
+use Rattle.preparing_trials.proofs.paths.ladders.Goals as goal
+
+pub loop-i-init : goal.loop-i-init
+loop-i-init c = refl
+
+pub read-requires : goal.read-requires
+read-requires c = tt
+
+pub ladder-index-requires : goal.ladder-index-requires
+ladder-index-requires c = tt
+
+pub overflow_add-i : goal.overflow_add-i
+overflow_add-i c = omega arith
+
+pub loop-i-smaller : goal.loop-i-smaller
+loop-i-smaller c = omega arith
+
+pub returns : goal.returns
+returns c = tt

@@ -1,0 +1,23 @@
+-- `plain::offsets` is safe and ends. Each slice keeps its length. Assumes nothing.
+use mathlib.Core.Path.{refl}
+use Prim.Native.Nat.{◌-◌}
+use native.Mathlib.Omega.{arith}
+use Rattle.preparing_trials.proofs.plain.offsets.Goals as goal
+
+pub loop-v-init : goal.loop-v-init
+loop-v-init c = refl
+
+pub offset-far-requires : goal.offset-far-requires
+offset-far-requires c = tt
+
+pub write-requires : goal.write-requires
+write-requires c = tt
+
+pub overflow_add-v : goal.overflow_add-v
+overflow_add-v c = omega arith
+
+pub loop-v-smaller : goal.loop-v-smaller
+loop-v-smaller c = omega arith
+
+pub returns : goal.returns
+returns c = tt

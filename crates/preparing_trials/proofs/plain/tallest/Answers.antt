@@ -1,0 +1,25 @@
+-- `plain::tallest` is safe and ends. Assumes nothing.
+use Prim.Native.Nat.{◌-◌}
+use native.Mathlib.Omega.{arith}
+use Rattle.preparing_trials.proofs.plain.tallest.Goals as goal
+
+pub loop-u-init : goal.loop-u-init
+loop-u-init c = tt
+
+pub get-requires : goal.get-requires
+get-requires c = tt
+
+pub read-h-requires : goal.read-h-requires
+read-h-requires c = tt
+
+pub overflow_add-u : goal.overflow_add-u
+overflow_add-u c = omega arith
+
+pub loop-u-smaller : goal.loop-u-smaller
+loop-u-smaller c = omega arith
+
+pub loop-u-preserved : goal.loop-u-preserved
+loop-u-preserved c = tt
+
+pub returns : goal.returns
+returns c = tt
