@@ -6,7 +6,7 @@ use Prim.Native.Nat.{ℕ, zero, suc, ◌-◌, ◌≤◌, ◌<◌}
 use native.Mathlib.Omega.{arith}
 use lib.ListN.{length, take}
 use lib.Dec.{eqb, ltb, leb}
-use borrow.Author.Tests.{eqb-true, ltb-true, leb-true, le-leb, ne_eqb, not-true, not-false}
+use borrow.Author.Tests.{eqb-true, ltb-true, leb-true, le-leb, ne_eqb, not-true}
 use Rattle.base.specs.Lists.{has}
 use Rattle.base.specs.Limits.{table_words, space_words}
 use Rattle.base.proofs.Lists.{clash}
@@ -48,13 +48,13 @@ module _ (st : State) (b : Lent) where
 
   -- the tests, one behind the other
   module _ (r : Bool) (is : r ≡ has_room b) where
-    pub no_place : not (r && leb st.held most_bytes) ≡ true → false ≡ fits st b
+    pub no_place : (r && leb st.held most_bytes) ≡ false → false ≡ fits st b
     unfolding fits
-    no_place t = let z : (has_room b && leb st.held most_bytes) ≡ false = ap (λ x. x && leb st.held most_bytes) (sym is) ∙ not-true _ t in rw z
+    no_place t = let z : (has_room b && leb st.held most_bytes) ≡ false = ap (λ x. x && leb st.held most_bytes) (sym is) ∙ t in rw z
 
-    module _ (t : not (r && leb st.held most_bytes) ≡ false) where
+    module _ (t : (r && leb st.held most_bytes) ≡ true) where
       place : (has_room b && leb st.held most_bytes) ≡ true
-      place = ap (λ x. x && leb st.held most_bytes) (sym is) ∙ not-false _ t
+      place = ap (λ x. x && leb st.held most_bytes) (sym is) ∙ t
 
       pub held-within : st.held ≤ length b.line
       held-within = let h = both (has_room b) _ place in omega (arith, (room_of b h.0).line, leb-true st.held most_bytes h.1)
