@@ -1,6 +1,5 @@
 -- `small_trees` is safe and ends. Each slice keeps its length. Assumes nothing.
 use mathlib.Core.Path.{refl}
-use Prim.Native.Nat.{◌-◌}
 use native.Mathlib.Omega.{arith}
 use Rattle.premium_trials.proofs.small_trees.Goals as goal
 

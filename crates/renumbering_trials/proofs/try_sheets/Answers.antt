@@ -1,5 +1,4 @@
 -- `try_sheets` is safe and ends. Assumes nothing.
-use Prim.Native.Nat.{◌-◌}
 use native.Mathlib.Omega.{arith}
 use Rattle.renumbering_trials.proofs.try_sheets.Goals as goal
 

@@ -1,5 +1,4 @@
 -- `try_trees` is safe and ends. Assumes nothing.
-use Prim.Native.Nat.{◌-◌}
 use native.Mathlib.Omega.{arith}
 use Rattle.renumbering_trials.proofs.try_trees.Goals as goal
 

@@ -1,5 +1,4 @@
 -- `try_kind` is safe and ends. Assumes nothing.
-use Prim.Native.Nat.{◌-◌}
 use native.Mathlib.Omega.{arith}
 use Rattle.sheet_trials.proofs.try_kind.Goals as goal
 

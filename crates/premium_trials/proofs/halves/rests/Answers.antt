@@ -1,5 +1,4 @@
 -- `halves::rests` is safe and ends. Assumes nothing.
-use Prim.Native.Nat.{◌-◌}
 use native.Mathlib.Omega.{arith}
 use Rattle.premium_trials.proofs.halves.rests.Goals as goal
 

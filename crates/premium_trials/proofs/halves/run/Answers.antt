@@ -1,5 +1,4 @@
 -- `halves::run` is safe and ends. Assumes nothing.
-use Prim.Native.Nat.{◌-◌}
 use native.Mathlib.Omega.{arith}
 use Rattle.premium_trials.proofs.halves.run.Goals as goal
 

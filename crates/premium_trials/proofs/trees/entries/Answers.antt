@@ -1,5 +1,4 @@
 -- `trees::entries` is safe and ends. Assumes nothing.
-use Prim.Native.Nat.{◌-◌}
 use native.Mathlib.Omega.{arith}
 use Rattle.premium_trials.proofs.trees.entries.Goals as goal
 

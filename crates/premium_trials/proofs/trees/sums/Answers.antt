@@ -1,5 +1,4 @@
 -- `trees::sums` is safe and ends. Assumes nothing.
-use Prim.Native.Nat.{◌-◌}
 use native.Mathlib.Omega.{arith}
 use Rattle.premium_trials.proofs.trees.sums.Goals as goal
 

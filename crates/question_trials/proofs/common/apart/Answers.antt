@@ -1,5 +1,4 @@
 -- `common::apart` is safe and ends. Assumes nothing.
-use Prim.Native.Nat.{◌-◌}
 use native.Mathlib.Omega.{arith}
 use Rattle.question_trials.proofs.common.apart.Goals as goal
 

@@ -1,5 +1,4 @@
 -- `common::first_shared` is safe and ends. Assumes nothing.
-use Prim.Native.Nat.{◌-◌}
 use native.Mathlib.Omega.{arith}
 use Rattle.question_trials.proofs.common.first_shared.Goals as goal
 

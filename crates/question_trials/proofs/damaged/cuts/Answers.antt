@@ -1,5 +1,4 @@
 -- `damaged::cuts` is safe and ends. Assumes nothing.
-use Prim.Native.Nat.{◌-◌}
 use native.Mathlib.Omega.{arith}
 use Rattle.question_trials.proofs.damaged.cuts.Goals as goal
 

@@ -1,6 +1,5 @@
 -- `damaged::each_wrong` is safe and ends. Each slice keeps its length. Assumes nothing.
 use mathlib.Core.Path.{refl}
-use Prim.Native.Nat.{◌-◌}
 use native.Mathlib.Omega.{arith}
 use Rattle.question_trials.proofs.damaged.each_wrong.Goals as goal
 

@@ -1,5 +1,4 @@
 -- `damaged::probe` is safe and ends. Assumes nothing.
-use Prim.Native.Nat.{◌-◌}
 use native.Mathlib.Omega.{arith}
 use Rattle.question_trials.proofs.damaged.probe.Goals as goal
 

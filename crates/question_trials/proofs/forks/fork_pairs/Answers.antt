@@ -1,5 +1,4 @@
 -- `forks::fork_pairs` is safe and ends. Assumes nothing.
-use Prim.Native.Nat.{◌-◌}
 use native.Mathlib.Omega.{arith}
 use Rattle.question_trials.proofs.forks.fork_pairs.Goals as goal
 

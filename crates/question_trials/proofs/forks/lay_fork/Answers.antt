@@ -1,6 +1,5 @@
 -- `forks::lay_fork` is safe and ends. Assumes nothing.
 use mathlib.Core.Path.{refl}
-use Prim.Native.Nat.{◌-◌}
 use native.Mathlib.Omega.{arith}
 use Rattle.question_trials.proofs.forks.lay_fork.Goals as goal
 

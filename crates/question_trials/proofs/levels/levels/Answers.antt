@@ -1,5 +1,4 @@
 -- `levels::levels` is safe and ends. Assumes nothing.
-use Prim.Native.Nat.{◌-◌}
 use native.Mathlib.Omega.{arith}
 use Rattle.question_trials.proofs.levels.levels.Goals as goal
 

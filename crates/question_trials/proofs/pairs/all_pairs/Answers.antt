@@ -1,5 +1,4 @@
 -- `pairs::all_pairs` is safe and ends. Assumes nothing.
-use Prim.Native.Nat.{◌-◌}
 use native.Mathlib.Omega.{arith}
 use Rattle.question_trials.proofs.pairs.all_pairs.Goals as goal
 

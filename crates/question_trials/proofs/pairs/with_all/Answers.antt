@@ -1,5 +1,4 @@
 -- `pairs::with_all` is safe and ends. Assumes nothing.
-use Prim.Native.Nat.{◌-◌}
 use native.Mathlib.Omega.{arith}
 use Rattle.question_trials.proofs.pairs.with_all.Goals as goal
 

@@ -1,5 +1,4 @@
 -- `asking::sums` is safe and ends. Assumes nothing.
-use Prim.Native.Nat.{◌-◌}
 use native.Mathlib.Omega.{arith}
 use Rattle.renumbering_trials.proofs.asking.sums.Goals as goal
 

@@ -1,5 +1,4 @@
 -- `bands::all_prices` is safe and ends. Assumes nothing.
-use Prim.Native.Nat.{◌-◌}
 use native.Mathlib.Omega.{arith}
 use Rattle.renumbering_trials.proofs.bands.all_prices.Goals as goal
 

@@ -1,5 +1,4 @@
 -- `bands::lines_in` is safe and ends. Assumes nothing.
-use Prim.Native.Nat.{◌-◌}
 use native.Mathlib.Omega.{arith}
 use Rattle.renumbering_trials.proofs.bands.lines_in.Goals as goal
 

@@ -1,5 +1,4 @@
 -- `bands::prices` is safe and ends. Assumes nothing.
-use Prim.Native.Nat.{◌-◌}
 use native.Mathlib.Omega.{arith}
 use Rattle.renumbering_trials.proofs.bands.prices.Goals as goal
 

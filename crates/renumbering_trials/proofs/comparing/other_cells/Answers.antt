@@ -1,5 +1,4 @@
 -- `comparing::other_cells` is safe and ends. Assumes nothing.
-use Prim.Native.Nat.{◌-◌}
 use native.Mathlib.Omega.{arith}
 use Rattle.renumbering_trials.proofs.comparing.other_cells.Goals as goal
 

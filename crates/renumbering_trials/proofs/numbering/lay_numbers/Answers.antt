@@ -1,6 +1,5 @@
 -- `numbering::lay_numbers` is safe and ends. The slice keeps its length. Assumes nothing.
 use mathlib.Core.Path.{refl}
-use Prim.Native.Nat.{◌-◌}
 use native.Mathlib.Omega.{arith}
 use Rattle.renumbering_trials.proofs.numbering.lay_numbers.Goals as goal
 

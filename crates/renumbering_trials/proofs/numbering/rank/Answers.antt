@@ -1,5 +1,4 @@
 -- `numbering::rank` is safe and ends. Assumes nothing.
-use Prim.Native.Nat.{◌-◌}
 use native.Mathlib.Omega.{arith}
 use Rattle.renumbering_trials.proofs.numbering.rank.Goals as goal
 

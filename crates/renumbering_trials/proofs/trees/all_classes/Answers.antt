@@ -1,5 +1,4 @@
 -- `trees::all_classes` is safe and ends. Assumes nothing.
-use Prim.Native.Nat.{◌-◌}
 use native.Mathlib.Omega.{arith}
 use Rattle.renumbering_trials.proofs.trees.all_classes.Goals as goal
 

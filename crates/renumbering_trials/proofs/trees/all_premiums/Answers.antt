@@ -1,5 +1,4 @@
 -- `trees::all_premiums` is safe and ends. Assumes nothing.
-use Prim.Native.Nat.{◌-◌}
 use native.Mathlib.Omega.{arith}
 use Rattle.renumbering_trials.proofs.trees.all_premiums.Goals as goal
 

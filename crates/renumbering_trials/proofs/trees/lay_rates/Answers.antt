@@ -1,6 +1,5 @@
 -- `trees::lay_rates` is safe and ends. The slice keeps its length. Assumes nothing.
 use mathlib.Core.Path.{refl}
-use Prim.Native.Nat.{◌-◌}
 use native.Mathlib.Omega.{arith}
 use Rattle.renumbering_trials.proofs.trees.lay_rates.Goals as goal
 

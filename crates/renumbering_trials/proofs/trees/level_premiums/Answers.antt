@@ -1,5 +1,4 @@
 -- `trees::level_premiums` is safe and ends. Assumes nothing.
-use Prim.Native.Nat.{◌-◌}
 use native.Mathlib.Omega.{arith}
 use Rattle.renumbering_trials.proofs.trees.level_premiums.Goals as goal
 

@@ -1,5 +1,4 @@
 -- `asking::all_are` is safe and ends. Assumes nothing.
-use Prim.Native.Nat.{◌-◌}
 use native.Mathlib.Omega.{arith}
 use Rattle.sheet_trials.proofs.asking.all_are.Goals as goal
 

@@ -1,5 +1,4 @@
 -- `questions::questions_with` is safe and ends. Assumes nothing.
-use Prim.Native.Nat.{◌-◌}
 use native.Mathlib.Omega.{arith}
 use Rattle.sheet_trials.proofs.questions.questions_with.Goals as goal
 
