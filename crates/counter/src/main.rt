@@ -49,7 +49,17 @@ fn run(
     let mut state = start();
     let mut turns = u64::MAX;
     while turns > 0 {
-        let went = turn(rt, &mut reader, state, input, line, out, parents, table, space);
+        let went = turn(
+            rt,
+            &mut reader,
+            state,
+            input,
+            line,
+            out,
+            parents,
+            table,
+            space,
+        );
         state = went.state;
         if !went.ok || is_at_end(state) {
             return;

@@ -115,7 +115,16 @@ fn halves(
     requires { Buffers (lent line.old parents.old table.old space.old) out.old }
 {
     let cut = input.len() / 2;
-    let half = piece(rt, start(), &input[0..cut], line, out, parents, table, space)?;
+    let half = piece(
+        rt,
+        start(),
+        &input[0..cut],
+        line,
+        out,
+        parents,
+        table,
+        space,
+    )?;
     piece(rt, half, &input[cut..], line, out, parents, table, space)
 }
 

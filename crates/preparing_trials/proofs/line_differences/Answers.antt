@@ -1,6 +1,5 @@
 -- `line_differences` is safe and ends. Each slice keeps its length. Assumes nothing.
 use mathlib.Core.Path.{refl}
-use Prim.Native.Nat.{◌-◌}
 use native.Mathlib.Omega.{arith}
 use Rattle.preparing_trials.proofs.line_differences.Goals as goal
 

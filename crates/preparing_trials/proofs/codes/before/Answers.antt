@@ -1,5 +1,4 @@
 -- `codes::before` is safe and ends. Assumes nothing.
-use Prim.Native.Nat.{◌-◌}
 use native.Mathlib.Omega.{arith}
 use Rattle.preparing_trials.proofs.codes.before.Goals as goal
 

@@ -1,5 +1,4 @@
 -- `codes::fewer` is safe and ends. Assumes nothing.
-use Prim.Native.Nat.{◌-◌}
 use native.Mathlib.Omega.{arith}
 use Rattle.preparing_trials.proofs.codes.fewer.Goals as goal
 

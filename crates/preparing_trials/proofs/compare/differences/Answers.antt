@@ -1,5 +1,4 @@
 -- `compare::differences` is safe and ends. Assumes nothing.
-use Prim.Native.Nat.{◌-◌}
 use native.Mathlib.Omega.{arith}
 use Rattle.preparing_trials.proofs.compare.differences.Goals as goal
 

@@ -1,5 +1,4 @@
 -- `groups::group_of` is safe and ends. Assumes nothing.
-use Prim.Native.Nat.{◌-◌}
 use native.Mathlib.Omega.{arith}
 use Rattle.preparing_trials.proofs.groups.group_of.Goals as goal
 

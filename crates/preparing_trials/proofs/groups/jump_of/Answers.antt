@@ -1,5 +1,4 @@
 -- `groups::jump_of` is safe and ends. Assumes nothing.
-use Prim.Native.Nat.{◌-◌}
 use native.Mathlib.Omega.{arith}
 use Rattle.preparing_trials.proofs.groups.jump_of.Goals as goal
 

@@ -1,5 +1,4 @@
 -- `groups::large_child` is safe and ends. Assumes nothing.
-use Prim.Native.Nat.{◌-◌}
 use native.Mathlib.Omega.{arith}
 use Rattle.preparing_trials.proofs.groups.large_child.Goals as goal
 

@@ -1,6 +1,5 @@
 -- `groups::lay_groups` is safe and ends. Each slice keeps its length. Assumes nothing.
 use mathlib.Core.Path.{refl}
-use Prim.Native.Nat.{◌-◌}
 use native.Mathlib.Omega.{arith}
 use Rattle.preparing_trials.proofs.groups.lay_groups.Goals as goal
 

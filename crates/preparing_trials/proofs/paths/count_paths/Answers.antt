@@ -1,5 +1,4 @@
 -- `paths::count_paths` is safe and ends. Assumes nothing.
-use Prim.Native.Nat.{◌-◌}
 use native.Mathlib.Omega.{arith}
 use Rattle.preparing_trials.proofs.paths.count_paths.Goals as goal
 

@@ -1,6 +1,5 @@
 -- `plain::measure` is safe and ends. Each slice keeps its length. Assumes nothing.
 use mathlib.Core.Path.{refl}
-use Prim.Native.Nat.{◌-◌}
 use native.Mathlib.Omega.{arith}
 use Rattle.preparing_trials.proofs.plain.measure.Goals as goal
 

@@ -1,5 +1,4 @@
 -- `plain::offset` is safe and ends. Assumes nothing.
-use Prim.Native.Nat.{◌-◌}
 use native.Mathlib.Omega.{arith}
 use Rattle.preparing_trials.proofs.plain.offset.Goals as goal
 

@@ -1,5 +1,4 @@
 -- `plain::place` is safe and ends. Assumes nothing.
-use Prim.Native.Nat.{◌-◌}
 use native.Mathlib.Omega.{arith}
 use Rattle.preparing_trials.proofs.plain.place.Goals as goal
 

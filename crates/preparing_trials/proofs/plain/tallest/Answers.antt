@@ -1,5 +1,4 @@
 -- `plain::tallest` is safe and ends. Assumes nothing.
-use Prim.Native.Nat.{◌-◌}
 use native.Mathlib.Omega.{arith}
 use Rattle.preparing_trials.proofs.plain.tallest.Goals as goal
 

@@ -1,5 +1,4 @@
 -- `verdict::lost` is safe and ends. Assumes nothing.
-use Prim.Native.Nat.{◌-◌}
 use native.Mathlib.Omega.{arith}
 use Rattle.preparing_trials.proofs.verdict.lost.Goals as goal
 

@@ -1,5 +1,4 @@
 -- `verdict::stray` is safe and ends. Assumes nothing.
-use Prim.Native.Nat.{◌-◌}
 use native.Mathlib.Omega.{arith}
 use Rattle.preparing_trials.proofs.verdict.stray.Goals as goal
 

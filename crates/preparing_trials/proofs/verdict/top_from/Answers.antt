@@ -1,5 +1,4 @@
 -- `verdict::top_from` is safe and ends. Assumes nothing.
-use Prim.Native.Nat.{◌-◌}
 use native.Mathlib.Omega.{arith}
 use Rattle.preparing_trials.proofs.verdict.top_from.Goals as goal
 

@@ -1,0 +1,11 @@
+-- Each slice keeps its length.
+use mathlib.Core.Path.{◌≡◌}
+use Prim.Native.Nat.{◌-◌}
+use lib.ListN.{length}
+use Rattle.premium_trials.proofs.run.Given as goal
+
+abbrev pub invariant-loop-line : goal.invariant-loop-line
+invariant-loop-line g l = (length l.parents ≡ length l.initial.parents) × (length l.table ≡ length l.initial.table) × (length l.space ≡ length l.initial.space) × (length l.rates ≡ length l.initial.rates)
+
+abbrev pub decreases-loop-line : goal.decreases-loop-line
+decreases-loop-line g l = 10 - l.line

@@ -1,0 +1,11 @@
+-- `trees::lay_rates` is safe and ends. The list of rates keeps its length. Assumes nothing.
+use mathlib.Core.Path.{◌≡◌}
+use Prim.Native.Nat.{◌-◌}
+use lib.ListN.{length}
+use Rattle.premium_trials.proofs.trees.lay_rates.Given as goal
+
+abbrev pub invariant-loop-v : goal.invariant-loop-v
+invariant-loop-v l = length l.rates ≡ length l.initial.rates
+
+abbrev pub decreases-loop-v : goal.decreases-loop-v
+decreases-loop-v l = l.n - l.v

@@ -1,0 +1,16 @@
+-- `lay` is safe: the part that it lends has the length that it names. Assumes nothing.
+use native.Mathlib.Omega.{arith}
+use lib.ListN.{length-take}
+use Rattle.renumbering_trials.proofs.lay.Goals as goal
+
+pub slice_bounds-prepare-end : goal.slice_bounds-prepare-end
+slice_bounds-prepare-end c = simp length-take (omega arith)
+
+pub prepare-reply-requires : goal.prepare-reply-requires
+prepare-reply-requires c = tt
+
+pub returns-then-n-parents : goal.returns-then-n-parents
+returns-then-n-parents c = tt
+
+pub returns : goal.returns
+returns c = tt

@@ -1,0 +1,11 @@
+-- `numbering::renumber_list` is safe and ends. The slice keeps its length. Assumes nothing.
+use mathlib.Core.Path.{◌≡◌}
+use Prim.Native.Nat.{◌-◌}
+use lib.ListN.{length}
+use Rattle.renumbering_trials.proofs.numbering.renumber_list.Given as goal
+
+abbrev pub invariant-loop-v : goal.invariant-loop-v
+invariant-loop-v l = length l.others ≡ length l.initial.others
+
+abbrev pub decreases-loop-v : goal.decreases-loop-v
+decreases-loop-v l = l.n - l.v

@@ -1,0 +1,39 @@
+-- `trees::all_classes` is safe and ends. Assumes nothing.
+use native.Mathlib.Omega.{arith}
+use Rattle.renumbering_trials.proofs.trees.all_classes.Goals as goal
+
+pub add-most-requires : goal.add-most-requires
+add-most-requires c = tt
+
+pub nothing-count-requires : goal.nothing-count-requires
+nothing-count-requires c = tt
+
+pub loop-i-init : goal.loop-i-init
+loop-i-init c = tt
+
+pub asked_at-v-requires : goal.asked_at-v-requires
+asked_at-v-requires c = tt
+
+pub levels-requires : goal.levels-requires
+levels-requires c = tt
+
+pub together-count-requires : goal.together-count-requires
+together-count-requires c = tt
+
+pub pairs-requires : goal.pairs-requires
+pairs-requires c = tt
+
+pub together-count-requires-in-loop-i : goal.together-count-requires-in-loop-i
+together-count-requires-in-loop-i c = tt
+
+pub overflow_add-i : goal.overflow_add-i
+overflow_add-i c = omega arith
+
+pub loop-i-smaller : goal.loop-i-smaller
+loop-i-smaller c = omega arith
+
+pub loop-i-preserved : goal.loop-i-preserved
+loop-i-preserved c = tt
+
+pub returns : goal.returns
+returns c = tt
