@@ -1,6 +1,6 @@
 //! The shapes of groups by number: by number of entries, then by the walk round the group, down before up.
 
-/// The most entries of a group, and the shapes of up to so many.
+/// The most entries of a group, and how many shapes groups have.
 pub(crate) const GROUP_LIMIT: u32 = 7;
 pub(crate) const SHAPES: u32 = 197;
 

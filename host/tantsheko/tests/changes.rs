@@ -1,4 +1,4 @@
-//! What another table does to the price list: beside plain climbs of both lists, and as an analyst asks for it.
+//! Where the price lists of two tables differ: beside plain climbs of both lists, and as an analyst asks for it.
 
 mod beside;
 mod folder;
@@ -8,7 +8,10 @@ use folder::{Folder, CHAIN};
 use reference::trees::{below, make as tree};
 use std::fs;
 use std::path::Path;
+use std::process::Command;
 use tantsheko::{file, Table};
+
+const README: &str = include_str!("../../../README.md");
 
 fn write(path: &Path, table: &Table) {
     file::write(path, table, &mut |_| ()).unwrap();
@@ -86,8 +89,8 @@ fn random_lists() {
 
 /// Entries 3 and 4 change places, 7 moves to below the top, and 8 is added below it.
 #[test]
-fn a_year_later() {
-    let f = Folder::new("changes-year");
+fn moved_and_added_entries() {
+    let f = Folder::new("changes-moved");
     f.file("old.txt", CHAIN);
     f.file("new.txt", "-\n0\n1\n4\n2\n3\n5\n0\n7\n");
     f.ok(&["prepare", "old.txt", "old"], "");
@@ -233,4 +236,45 @@ fn a_table_of_no_list() {
         f.run(&["changes", "table", "bad", "0"], ""),
         (1, "1,0,0,1\n".to_string(), why.to_string())
     );
+    assert_eq!(
+        f.run(&["changes", "bad", "bad", "0"], ""),
+        (1, String::new(), why.to_string())
+    );
+}
+
+/// Standard error is a pipe without a reader: the rows and the status are the same.
+#[test]
+fn nobody_reads_the_counts() {
+    let f = Folder::new("changes-unread");
+    f.file("old.txt", CHAIN);
+    f.file("new.txt", "-\n0\n0\n");
+    f.ok(&["prepare", "old.txt", "old"], "");
+    f.ok(&["prepare", "new.txt", "new"], "");
+    let run = |args: &[&str]| {
+        let (reader, writer) = std::io::pipe().unwrap();
+        drop(reader);
+        let mut command = Command::new(env!("CARGO_BIN_EXE_tantsheko"));
+        let call = command.args(args).current_dir(&f.0).stderr(writer);
+        let out = call.output().unwrap();
+        (out.status.code().unwrap(), out.stdout)
+    };
+    let (rows, _) = differing(&[TOP, 0, 1, 2, 3, 4, 5, 6], &[TOP, 0, 0], &[1]);
+    assert_eq!(run(&["changes", "old", "new", "1"]), (0, rows.into()));
+    assert_eq!(run(&["changes", "old", "none", "1"]), (1, Vec::new()));
+    assert_eq!(run(&["changes", "old"]), (2, Vec::new()));
+}
+
+/// The call and the output of the README.
+#[test]
+fn the_readmes_example() {
+    let f = Folder::new("changes-readme");
+    f.file("old.txt", "-\n0\n1\n1\n");
+    f.file("new.txt", "-\n0\n0\n1\n2\n");
+    f.ok(&["prepare", "old.txt", "old.table"], "");
+    f.ok(&["prepare", "new.txt", "new.table"], "");
+    let call = "changes old.table new.table 1 2";
+    let (_, out, err) = f.run(&call.split(' ').collect::<Vec<_>>(), "");
+    let lines = format!("$ tantsheko {call}\n{out}{err}");
+    let shown: String = lines.lines().map(|l| format!("    {l}\n")).collect();
+    assert!(README.contains(&format!("\n{shown}\n")), "{shown}");
 }

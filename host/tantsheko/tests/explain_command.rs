@@ -10,6 +10,7 @@ use tantsheko::{file, Table};
 const CHAIN_OF_EIGHT: &str = include_str!("explained/chain_of_eight.txt");
 const CHAIN_OF_TWENTY: &str = include_str!("explained/chain_of_twenty.txt");
 const LONE_ENTRY: &str = include_str!("explained/lone_entry.txt");
+const README: &str = include_str!("../../../README.md");
 
 fn chain(n: u32) -> String {
     let entries = (0..n).map(|i| i.checked_sub(1).map_or("-\n".into(), |p| format!("{p}\n")));
@@ -28,6 +29,15 @@ fn stored_explanations() {
             assert_eq!(f.ok(&args, ""), out, "{call}");
         }
     }
+}
+
+/// The README has the first explanation of the chain of twenty.
+#[test]
+fn the_readmes_example() {
+    let first = CHAIN_OF_TWENTY.split("$ ").nth(1).unwrap();
+    let lines = format!("$ {}", first.replacen("table", "chain.table", 1));
+    let shown: String = lines.lines().map(|l| format!("    {l}\n")).collect();
+    assert!(README.contains(&format!("\n{shown}\n")), "{shown}");
 }
 
 /// The marked entries of the paper, with the cells that they have in tables of groups of up to seven.
@@ -60,7 +70,7 @@ fn bad_calls_and_bad_tables() {
     f.file("list", CHAIN);
     f.ok(&["prepare", "list", "table"], "");
     let about = "; see `tantsheko explain --help`";
-    let takes = "explain takes TABLE [class] ENTRY DEPTH";
+    let takes = "explain takes TABLE [QUESTION] ENTRY DEPTH";
     for (args, text) in [
         (&[][..], takes),
         (&["table"], takes),

@@ -73,11 +73,28 @@ impl Asked<'_> {
         self.below(self.a).contains(&self.position(self.b))
     }
 
+    /// The number of an entry's jump entry: the first in preorder at or below it, of size 8 or more with none so large below.
+    fn jump_entry(&self, v: usize) -> usize {
+        let s = self.sections();
+        let large = |&i: &usize| self.below(self.word(s.order() + i)).len() >= 8;
+        let ends = |&i: &usize| {
+            let below = self.below(self.word(s.order() + i));
+            !below.skip(1).any(|j| large(&j))
+        };
+        let jumps = (0..s.n).filter(large).filter(ends);
+        jumps.take_while(|&i| i < self.position(v)).count()
+    }
+
+    fn root(&self, group: u32) -> usize {
+        let s = self.sections();
+        self.word(s.order() + self.word(s.groups() + 3 * group as usize))
+    }
+
     /// The numbers of a sentence on a group's shape: its depths, and where the climbs from the entry lead.
     fn in_group(&self, group: u32) -> Vec<usize> {
         let (s, v) = (self.sections(), self.entry());
-        let first = self.word(s.groups() + 3 * group as usize);
-        let root = self.word(s.order() + first);
+        let root = self.root(group);
+        let first = self.position(root);
         let positions = self.below(root);
         let entries = positions.clone().map(|i| self.word(s.order() + i));
         let mut numbers: Vec<usize> = entries.map(|x| self.depth(x) - self.depth(root)).collect();
@@ -153,29 +170,41 @@ impl Sentence {
             | "a group of depths # below its root: local number # is at #, and # climb up is out of the group" => {
                 matches!(self.place, Place::Shape(group) if asked.in_group(group) == x)
             }
-            "so the answer is in ORDER at # + #" => {
+            "so read ORDER at # + #" => {
                 self.next == Some(Place::Order((x[0] + x[1]) as u32)) && x[0] == word
             }
-            "at depth #, so entry # is the answer" => {
-                x == [asked.wanted(), asked.class()] && word == x[1]
+            "at depth # - # - # = #, so entry # is the answer" => {
+                x[..4] == self.over_group(asked) && x[3] == asked.wanted() && x[4..] == [word]
             }
-            "at depth #, deeper than #, so go on from entry #, # climb up" => {
-                let depth = asked.depth(word);
-                x == [depth, asked.wanted(), word, depth - asked.wanted()]
+            "at depth # - # - # = #, deeper than #, so go on from entry #, # climb up" => {
+                let (depth, wanted) = (asked.depth(word), asked.wanted());
+                x[..4] == self.over_group(asked) && x[4..] == [wanted, word, depth - wanted]
             }
             "entry # is the answer" => x == [word] && word == asked.class(),
             _ => return None,
         })
     }
 
+    /// The numbers of the parent's depth: the entry's, less its depth in the group, less 1.
+    fn over_group(&self, asked: &Asked) -> [usize; 4] {
+        let Place::Parent(group) = self.place else {
+            panic!("{:?}", self.place);
+        };
+        let depth = asked.depth(asked.entry());
+        let k = depth - asked.depth(asked.root(group));
+        [depth, k, 1, asked.depth(self.word)]
+    }
+
     /// The same of step 4.
     fn of_jump(&self, asked: &Asked) -> Option<bool> {
         let (x, word) = (&self.x[..], self.word);
         Some(match self.form.as_str() {
-            "not micro, so go on from the first jump entry at or below it, number #" => {
-                x == [word] && self.next == Some(Place::JumpDepth(word as u32))
+            "not micro, so go on from its jump entry, number #" => {
+                matches!(self.place, Place::Kind(v) if asked.jump_entry(v as usize) == word)
+                    && x == [word]
+                    && self.next == Some(Place::JumpDepth(word as u32))
             }
-            "from the jump entry # - # = # climb up, and #^# is the largest power of two not above #" => {
+            "from there # - # = # climb up, and #^# is the largest power of two not above #" => {
                 let up = word - asked.wanted();
                 let power = 1 << x[4];
                 x == [word, asked.wanted(), up, 2, x[4], up] && power <= up && up < 2 * power
@@ -184,7 +213,7 @@ impl Sentence {
                 let missing = asked.depth(word) - asked.wanted();
                 x[0] == word && x[2] == 2 && x[1] - (1 << x[3]) == missing && x[4] == missing
             }
-            "so the answer is in LADDERS at # less #" => {
+            "so read LADDERS at # less #" => {
                 self.next == Some(Place::Ladders((x[0] - x[1]) as u32)) && x[0] == word
             }
             _ => return None,
@@ -206,7 +235,7 @@ impl Sentence {
             "among them, so entry # is above entry #: go on" => {
                 x == [a, b] && asked.is_above() && a != b
             }
-            "among them, but entry # is not above itself" => x == [a] && a == b,
+            "entry # is not above itself" => x == [a] && a == b,
             "so the child is the class of entry # at depth #, which is looked up from cell # on" => {
                 x == [b, asked.wanted(), 0] && word + 1 == x[1]
             }

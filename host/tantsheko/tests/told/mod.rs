@@ -67,8 +67,16 @@ fn ends(told: &Explanation, question: Question) {
     assert!(last.follows.contains(&end), "{end} of {told:?}");
 }
 
-/// Explains a question. Each line has its answer's cell, called by its section and place, and the cell's word; where it says
-/// where the answer is, the next line is there.
+/// Whether "climb" stands behind each 1, and "climbs" behind every other number.
+fn climbs_agree(follows: &str) -> bool {
+    let words: Vec<&str> = follows.split([' ', ',']).collect();
+    let pairs = words.windows(2);
+    let mut counted = pairs.filter(|p| p[0].parse::<u32>().is_ok() && p[1].starts_with("climb"));
+    counted.all(|p| (p[0] == "1") == (p[1] == "climb"))
+}
+
+/// Explains a question. Each line has its answer's cell, called by its section and place, and the cell's word; ORDER and LADDERS
+/// are read where the line before says.
 pub fn explained(table: &Table, question: Question, a: u32, b: u32) -> Explanation {
     let answer = question.ask(table, a, b);
     let told = explain(table, question, a, b)
@@ -86,15 +94,17 @@ pub fn explained(table: &Table, question: Question, a: u32, b: u32) -> Explanati
                 Place::of(table.entries(), line.cell).unwrap()
             )
         );
-        if let Some(place) = line.follows.strip_prefix("so the answer is in ") {
-            let (form, numbers) = parted(place);
-            match form.as_str() {
-                "ORDER at # + #" => assert_eq!(
-                    told.lines[at + 1].place,
-                    Place::Order((numbers[0] + numbers[1]) as u32)
-                ),
-                _ => assert_eq!(told.lines[at + 1].called, place),
+        assert!(climbs_agree(&line.follows), "{line:?}");
+        let next = told.lines.get(at + 1);
+        let read = line.follows.strip_prefix("so read ");
+        match (next.map(|l| l.place), read) {
+            (Some(Place::Order(i)), Some(said)) => {
+                let (form, x) = parted(said);
+                assert_eq!((form.as_str(), x[0] + x[1]), ("ORDER at # + #", i as usize));
             }
+            (Some(Place::Ladders(_)), said) => assert_eq!(next.map(|l| l.called.as_str()), said),
+            (Some(Place::Order(_)), None) | (_, Some(_)) => panic!("{told:?}"),
+            (_, None) => {}
         }
     }
     ends(&told, question);

@@ -52,10 +52,11 @@ It lists no cells: the metering clause does not cover it.",
 `climb ENTRY COUNT`, `rating ENTRY LEVEL`, `above UPPER LOWER`, `branch UPPER LOWER`,
 `shared ENTRY ENTRY` or `distance ENTRY ENTRY`, as in `batch`.
 A line for each cell, in the order read: the cell's number, its section and the entry,
-place, group or jump entry there, the word that it holds, and what follows from it. Then
-the result, or the refusal with its number and what it names, and how many cells were
-read. A refusal is told like any other answer, with status 0. The cells of `premium` and
-`quote` are those of `rating`; shared and distance list none.
+place, group or jump entry there, the word that it holds, and what follows from it. An
+entry's jump entry is the first at or below it. Then the result, or the refusal with its
+number and what it names, and how many cells were read. A refusal is told like any other
+answer, with status 0. The cells of `premium` and `quote` are those of `rating`; shared
+and distance list none.
 Where the paper has groups of up to 5, groups have up to 7 entries since request 2026-08:
 cell 0 is 1073741824 plus the number of entries, there are 197 shapes, numbered in the
 same order, and a jump entry has size 8 or more. So cells listed before may differ. A
