@@ -1,4 +1,4 @@
-/* The proved class tree for C. Link with libexports.a, which `rt staticlib exports` writes to target/staticlib.
+/* The proved class tree for C. Link with libexports.a, which `host/run build` writes to target/staticlib.
  *
  * A list is an array of words, one for each entry: its parent's number, or TANTSHEKO_TOP. Each
  * array has the length that is stated, and arrays that one call takes do not overlap. No other precondition is left to the

@@ -1,4 +1,4 @@
-//! Links the proved library, which `rt staticlib exports` writes at the repository's root.
+//! Links the proved library, which `host/run build` puts at the repository's root.
 use std::path::Path;
 
 fn main() {

@@ -2,12 +2,11 @@
 use mathlib.Core.Path.{◌≡◌, sym, ap, ◌∙◌}
 use mathlib.Core.List.{List, flatten}
 use mathlib.Core.Option.{some}
-use Prim.Native.Nat.{ℕ, suc, ◌+◌, ◌-◌, ◌*◌, ◌^◌, ◌≤◌, ◌<◌}
+use Prim.Native.Nat.{ℕ, suc, ◌+◌, ◌-◌, ◌^◌, ◌≤◌, ◌<◌}
 use native.Mathlib.Omega.{arith}
 use lib.ListN.{length, get_or}
 use Rattle.base.specs.Limits.{top_mark}
 use Rattle.tree.specs.Parents.{up, depth}
-use Rattle.tree.specs.Forest.{height}
 use Rattle.tree.specs.Faults.{Tree}
 use Rattle.tree.specs.Level.{Ancestor}
 use Rattle.tree.proofs.Climbs.{up_from, up-add}

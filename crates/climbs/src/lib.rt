@@ -1,3 +1,2 @@
 // The mathematics of the lookup: theorems, no functions.
 #![tactic(auto)]
-

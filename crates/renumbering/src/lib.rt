@@ -1,3 +1,2 @@
 // One tree under another office's numbering: definitions and theorems, no functions.
 #![tactic(auto)]
-

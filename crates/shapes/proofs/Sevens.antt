@@ -1,6 +1,6 @@
 -- A list of seven is one for each number below the group limit. Assumes nothing.
 use mathlib.Core.Path.{◌≡◌}
-use mathlib.Core.List.{List, [], ◌∷◌}
+use mathlib.Core.List.{[], ◌∷◌}
 use Prim.Native.Nat.{ℕ}
 use Rattle.base.specs.Limits.{group_limit}
 use Rattle.base.specs.Lists.{each, below}

@@ -7,7 +7,7 @@ use Rattle.base.specs.Lists.{below}
 use Rattle.base.specs.Limits.{top_mark}
 use Rattle.tree.specs.Parents.{depth}
 use Rattle.tree.specs.Parents.{up as climb_up}
-use Rattle.shapes.specs.Walks.{Step, down, up, Walk, shapes}
+use Rattle.shapes.specs.Walks.{down, up, Walk, shapes}
 
 -- for each down of a walk the local number that it goes down from, where `path` has the local numbers from where the walk stands
 -- up to the root, and m is the next local number

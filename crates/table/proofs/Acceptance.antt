@@ -1,9 +1,9 @@
 -- Which lists preparing accepts. Assumes nothing.
-use mathlib.Core.Path.{◌≡◌, refl}
+use mathlib.Core.Path.{◌≡◌}
 use mathlib.Core.Logic.{◌↔◌}
 use mathlib.Core.List.{List}
-use mathlib.Core.Bool.{Bool, true, false, cond, ◌||◌}
-use mathlib.Core.Option.{Option, none, some, some-ne-none, Option-elim, or_else}
+use mathlib.Core.Bool.{cond, ◌||◌}
+use mathlib.Core.Option.{none, some, some-ne-none, Option-elim, or_else}
 use Prim.Native.Nat.{ℕ, ◌≤◌, ◌<◌}
 use native.Mathlib.Omega.{arith}
 use native.Mathlib.Decide.{ℕ_discrete, dec_le}
@@ -12,7 +12,7 @@ use lib.Dec.{eqb, ltb}
 use borrow.Author.Tests.{eq-eqb, ne_eqb, lt-ltb, le-ltb}
 use Rattle.base.specs.Numbers.{count, accepted}
 use Rattle.base.specs.Limits.{most_entries, table_words, space_words, header_of, entries_of}
-use Rattle.tree.specs.Faults.{Tree, list_fault}
+use Rattle.tree.specs.Faults.{Tree}
 use Rattle.tree.proofs.Theorems.{passes-iff-tree}
 use Rattle.table.specs.Preparing.{count_fault, table_fault, space_fault, call_fault, refusal, preparing, Accepted}
 

@@ -1,5 +1,5 @@
 -- "The table": every word of the prepared table of a parent list. Assumes nothing.
-use Rattle.std.specs.Prelude.{◌≡◌, ℕ, ◌*◌, length}
+use Rattle.std.specs.Prelude.{ℕ, ◌*◌, length}
 use mathlib.Core.List.{List, [], ◌∷◌, ◌++◌, flatten, flat_map}
 use Rattle.base.specs.Lists.{below, padded}
 use Rattle.base.specs.Limits.{group_limit, header_of, jump_room, record_words}

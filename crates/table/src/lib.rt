@@ -1,3 +1,2 @@
 // The prepared table: definitions and theorems, no functions.
 #![tactic(auto)]
-

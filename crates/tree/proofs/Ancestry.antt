@@ -1,12 +1,11 @@
 -- Of a list that forms one tree: an entry's climb holds its ancestors, and the child of u towards v is the one on v's climb. Assumes nothing.
 use mathlib.Core.Path.{◌≡◌, refl, sym, ap, ◌∙◌}
 use mathlib.Core.Logic.{◌↔◌}
-use mathlib.Core.List.{List, [], ◌∷◌}
+use mathlib.Core.List.{List, []}
 use mathlib.Core.Bool.{Bool, true, false, cond}
 use mathlib.Core.Option.{Option, none, some, Option-elim, some-injective}
-use Prim.Native.Nat.{ℕ, zero, suc, ◌+◌, ◌-◌, ◌≤◌, ◌<◌}
+use Prim.Native.Nat.{ℕ, zero, suc, ◌+◌, ◌≤◌, ◌<◌}
 use native.Mathlib.Omega.{arith}
-use native.Mathlib.Decide.{ℕ_discrete}
 use lib.ListN.{length}
 use lib.Dec.{eqb}
 use borrow.Author.Tests.{eqb-true, eq-eqb}
@@ -15,7 +14,7 @@ use Rattle.base.proofs.Lists.{clash}
 use Rattle.base.proofs.Counts.{times}
 use Rattle.base.proofs.Filters.{first-only, first-nothing}
 use Rattle.base.specs.Limits.{top_mark}
-use Rattle.tree.specs.Parents.{word, parent, up, climb_within, climb, depth, children}
+use Rattle.tree.specs.Parents.{parent, up, climb_within, climb, depth, children}
 use Rattle.tree.specs.Level.{Ancestor, LevelAncestor, level_ancestor}
 use Rattle.tree.specs.Faults.{Tree}
 use Rattle.tree.proofs.Climbs.{entry_in, entry-some, parent-some, parent_in, up_step, up_first, up-add}

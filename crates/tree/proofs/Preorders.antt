@@ -3,19 +3,18 @@
 use mathlib.Core.Path.{◌≡◌, refl, sym, ap, ap₂, ◌∙◌}
 use mathlib.Core.Logic.{◌⊎◌, inl, inr}
 use mathlib.Core.List.{List, [], ◌∷◌, ◌++◌, append_assoc, append-nil}
-use mathlib.Core.Bool.{Bool, true, false}
+use mathlib.Core.Bool.{true}
 use Prim.Native.Nat.{ℕ, zero, suc, ◌+◌, ◌≤◌, ◌<◌}
 use native.Mathlib.Omega.{arith}
 use native.Mathlib.Decide.{ℕ_discrete, dec_lt}
 use lib.ListN.{length, length-append}
-use lib.Dec.{eqb}
 use borrow.Author.Tests.{eq-eqb, ne_eqb}
 use Rattle.base.specs.Lists.{some?}
 use Rattle.base.proofs.Lists.{clash}
 use Rattle.base.proofs.Counts.{one, times, times-append, places-at, places-past, sum, sum-le, length-sum, one_same}
 use Rattle.base.specs.Limits.{top_mark}
 use Rattle.tree.specs.Parents.{word, children, climb_within}
-use Rattle.tree.specs.Forest.{Forest, node, plant, grow, preorder}
+use Rattle.tree.specs.Forest.{node, plant, grow, preorder}
 use Rattle.tree.proofs.Climbs.{meets, meets-top, meets_word, meets-past}
 
 -- the preorder of m levels whose first is vs

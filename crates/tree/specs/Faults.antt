@@ -1,5 +1,5 @@
 -- A parent list that forms one tree, and what turns one away that does not: numbers 4, 5 and 6, on any list of words. Assumes nothing.
-use Rattle.std.specs.Prelude.{◌≡◌, List, [], ◌∷◌, Bool, true, false, not, ◌||◌, ℕ, ◌<◌, length, eqb, ltb}
+use Rattle.std.specs.Prelude.{◌≡◌, List, [], ◌∷◌, Bool, not, ◌||◌, ℕ, ◌<◌, length, eqb, ltb}
 use Rattle.std.proofs.Math.Option.{Option, none, some, map, or_else}
 use Rattle.std.proofs.Math.ListN.{get_elem?}
 use Rattle.base.specs.Lists.{below, first, some?}

@@ -1,5 +1,5 @@
 -- "The parent list": n words, each the number of the entry above or the top mark. An entry is a node of 003. Assumes nothing.
-use Rattle.std.specs.Prelude.{List, [], ◌∷◌, Bool, cond, ℕ, zero, suc, ◌-◌, length, get_or, eqb, ltb}
+use Rattle.std.specs.Prelude.{List, [], ◌∷◌, cond, ℕ, zero, suc, ◌-◌, length, get_or, ltb}
 use Rattle.std.proofs.Math.Option.{Option, none, some, Option-elim, bind}
 use Rattle.std.proofs.Math.ListN.{get_elem?}
 use Rattle.base.specs.Lists.{places}

@@ -119,7 +119,7 @@ fn every_shape() {
 /// Why a table is broken, with each number as #, and the depths of a group as one.
 const BROKEN: [&str; 16] = [
     "# (groups of up to #) + #, so n is #, and not # to #",
-    "# (groups of up to #) + #, so n is #, and # cells are needed of #",
+    "# (groups of up to #) + #, so n is #, and # cells are needed of the # there",
     "# + # is past the end of ORDER",
     "# + # × # + #, so micro: group # is past the end of GROUPS",
     "# - # is below #",
@@ -128,12 +128,12 @@ const BROKEN: [&str; 16] = [
     "less deep than #, though below entry #",
     "micro, and a group's parent is not",
     "not a depth, # to #",
-    "not a shape",
+    "not a shape, # to #",
     "not an entry, # to #",
     "not deeper than #",
     "not micro: jump entry # is past the end of JUMPS",
     "the top mark, where an entry is to be",
-    "under #, as in an older table",
+    "under # (groups of up to #)",
 ];
 
 fn reason(follows: &str) -> String {

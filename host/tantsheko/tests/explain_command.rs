@@ -118,7 +118,7 @@ fn a_table_of_no_list() {
     let why = "refused with 9 (broken), naming 0: the table is damaged, or an older program made it: prepare it again";
     for (cell, word, line, count) in [
         (11, 8, "11  DEPTH of entry 7   8: not a depth, 0 to 7: the table is broken", 2),
-        (69, 197, "69  shape of group 0   197: not a shape: the table is broken", 4),
+        (69, 197, "69  shape of group 0   197: not a shape, 0 to 196: the table is broken", 4),
         (29, u32::MAX, "29  ORDER at 1           4294967295: the top mark, where an entry is to be: the table is broken", 6),
     ] {
         let mut words = table.words().to_vec();

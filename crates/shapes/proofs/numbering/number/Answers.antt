@@ -20,13 +20,17 @@ overflow_cast-from c = search rules
 -- a group's depths pass each test
 pub returns-then-entries-eq0 : goal.returns-then-entries-eq0
 returns-then-entries-eq0 c =
-    let a = c.args in record { is = (λ f d rest e n b.
+    let a = c.args in record {
+      is = (λ f d rest e n b.
           let h : a.from.0 + suc (forest_size f) ≤ length a.depths.now = part-fits a.depths.now a.from.0 f d rest e in
           absurd
           (⊎_elim
           (λ w. omega arith)
           (⊎_elim (λ w. omega (arith, ltb-true)) (⊎_elim (λ w. omega (arith, ltb-true)) (λ w. omega (arith, ltb-true))))
-          c.then-entries-eq0.branch-raw)); small = omega arith; none = λ never. refl }
+          c.then-entries-eq0.branch-raw));
+      small = omega arith;
+      none = λ never. refl;
+    }
 
 -- what the tests leave is a part of the depths, which is the group's
 pub overflow_cast-end : goal.overflow_cast-end
@@ -55,11 +59,15 @@ ranked-requires c = simp (length-take, length-drop) (omega (arith, ltb-false))
 
 pub returns : goal.returns
 returns c =
-    let a = c.args in record { is = (λ f d rest e n b.
+    let a = c.args in record {
+      is = (λ f d rest e n b.
           let k : a.from.0 + a.entries - a.from.0 ≡ suc (forest_size f) = omega arith in
-          c.ranked.ensures.is f d (rw k (part-levels a.depths.now a.from.0 f d rest e))); small = c.ranked.ensures.small; none = λ never.
-            c.ranked.ensures.none
-            (λ f d e.
-            let k : a.from.0 + a.entries - a.from.0 ≡ a.entries = omega arith in
-            let q : take a.entries (drop a.from.0 a.depths.now) ≡ d ∷ levels (suc d) f = rw k at e in
-            never f d _ (levels-part a.depths.now a.from.0 a.entries f d q) (levels-count a.depths.now a.from.0 a.entries f d q (omega (arith, ltb-false))) (omega (arith, ltb-false))) }
+          c.ranked.ensures.is f d (rw k (part-levels a.depths.now a.from.0 f d rest e)));
+      small = c.ranked.ensures.small;
+      none = λ never.
+          c.ranked.ensures.none
+          (λ f d e.
+          let k : a.from.0 + a.entries - a.from.0 ≡ a.entries = omega arith in
+          let q : take a.entries (drop a.from.0 a.depths.now) ≡ d ∷ levels (suc d) f = rw k at e in
+          never f d _ (levels-part a.depths.now a.from.0 a.entries f d q) (levels-count a.depths.now a.from.0 a.entries f d q (omega (arith, ltb-false))) (omega (arith, ltb-false)));
+    }
