@@ -207,7 +207,7 @@ pub extern "C" fn tantsheko_quotation(
     amount: &mut u32,
     cents: &mut i64,
 )
-    ensures { QuotationWords sheet.now v sum table.now answer.new (record { amount = amount.exit.now; cents = record { 0 = cents.new } }) }
+    ensures { QuotationWords sheet.now v sum table.now answer.new (record { amount = amount.new; cents = record { 0 = cents.new } }) }
 {
     let money = pricing::quotation_words(table, sheet, Node(v), Sum(sum), answer);
     let named = money.amount;
