@@ -3,13 +3,13 @@
 #![tactic(auto)]
 
 mod asking;
-mod bands;
+mod band_sheets;
 mod comparing;
 mod numbering;
 mod printed;
 mod trees;
 
-use crate::bands::{renumber_text, try_parts};
+use crate::band_sheets::{renumber_text, try_parts};
 use crate::comparing::{Count, nothing, together, without_cells};
 use crate::numbering::{lay_numbers, renumber_list, renumber_rates};
 use crate::printed::say;

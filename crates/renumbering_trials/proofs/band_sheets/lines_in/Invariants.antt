@@ -1,7 +1,7 @@
--- `bands::lines_in` is safe and ends. Assumes nothing.
+-- `band_sheets::lines_in` is safe and ends. Assumes nothing.
 use Prim.Native.Nat.{◌-◌}
 use lib.ListN.{length}
-use Rattle.renumbering_trials.proofs.bands.lines_in.Given as goal
+use Rattle.renumbering_trials.proofs.band_sheets.lines_in.Given as goal
 
 abbrev pub invariant-loop-i : goal.invariant-loop-i
 invariant-loop-i l = Unit {0}
