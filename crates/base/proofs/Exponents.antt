@@ -1,5 +1,5 @@
 -- The exponent of a 32-bit number: the one e with 2^e ≤ x < 2^(e+1), and none for 0 alone. Assumes nothing.
-use mathlib.Core.Path.{◌≡◌, refl, sym, ap, ◌∙◌}
+use mathlib.Core.Path.{◌≡◌, refl, sym, ◌∙◌}
 use mathlib.Core.Logic.{◌↔◌}
 use mathlib.Core.Bool.{Bool, true, false, ◌&&◌}
 use mathlib.Core.Option.{none, some, none-ne-some}
@@ -11,8 +11,7 @@ use lib.Count.{leading_top}
 use lib.Dec.{leb, ltb}
 use lib.Pow.{pow_mono, pow_pos}
 use borrow.Author.Tests.{leb-true, ltb-true, le-leb, lt-leb, lt-ltb, le-ltb}
-use Rattle.base.specs.Powers.{exponent, exponent_of}
-use Rattle.base.specs.declared.powers.LargestPower.{LargestPower}
+use Rattle.base.specs.Powers.{exponent}
 use Rattle.base.proofs.Lists.{clash, first_some, first-is, none_first}
 
 -- the test of an exponent
@@ -73,7 +72,3 @@ pub exponent-low : (k x e : ℕ) → k ≤ 32 → x < 2 ^ k → exponent x ≡ s
 exponent-low k x e b h q =
     let small : x < 2 ^ 32 = omega (arith, pow_mono {i = k} {j = 32} b) in
     (lt_of_not-le (λ c. omega (arith, (exponent-largest x e k small q).0 c)), (exponent-largest x e e small q).0 (omega arith))
-
--- where an answer is p, the definition gives what p says
-pub exponent-told : (x : ℕ) {r p : LargestPower} → exponent_of r ≡ exponent x → r ≡ p → exponent x ≡ exponent_of p
-exponent-told x q t = sym q ∙ ap exponent_of t

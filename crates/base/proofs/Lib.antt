@@ -12,3 +12,4 @@ pub mod Views
 pub mod Puts
 pub mod Measures
 pub mod Exponents
+pub mod Options

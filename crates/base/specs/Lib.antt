@@ -4,3 +4,5 @@ pub mod Numbers
 pub mod Limits
 pub mod Amounts
 pub mod Powers
+pub mod Options
+pub mod Refusals

@@ -5,12 +5,14 @@ pub mod amounts;
 pub mod limits;
 pub mod numbers;
 pub mod powers;
+mod refusals;
 mod words;
 
-pub use words::{clear, set_all};
+pub use refusals::{Refusal, reply_words};
+pub use words::clear;
 
 // An entry's number: a node of 003.
-#[derive(Clone, Copy)]
+#[derive(Clone, Copy, PartialEq, Eq)]
 pub struct Node(pub u32);
 
 // An entry's place in the preorder: its depth-first number in 003.
@@ -24,10 +26,3 @@ pub struct Sum(pub i64);
 // An amount in cents.
 #[derive(Clone, Copy)]
 pub struct Cents(pub i64);
-
-// The paper's number of an answer, and what it names.
-#[derive(Clone, Copy)]
-pub struct Reply {
-    pub number: u32,
-    pub word: u32,
-}
