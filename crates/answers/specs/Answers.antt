@@ -27,6 +27,10 @@ listed xs = record { at = padded 15 xs; count = length xs }
 abbrev pub outcome : Answer → Outcome
 outcome r = record { number = r.number; word = r.word }
 
+-- the answer of an outcome, with cells
+abbrev pub answer_of : Outcome → Cells → Answer
+answer_of o cs = record { number = o.number; word = o.word; cells = cs }
+
 -- the answer of a program on a table
 unfoldable pub answer_to : List ℕ → Reading → Answer
 answer_to t p = record { number = (run t p).number; word = (run t p).word; cells = listed (trace t p) }

@@ -2,7 +2,11 @@
 #![tactic(auto)]
 
 ghost use Rattle.std.specs.Prelude.{◌≡◌, [], ◌+◌, ◌<◌, set};
-ghost use Rattle.answers.specs.Answers.{pushed, listed, answer_words};
+ghost use Rattle.base.specs.Refusals.{outcome_of};
+ghost use Rattle.answers.specs.Answers.{pushed, listed, answer_of, answer_words};
+
+use base::Refusal;
+use base::numbers::ACCEPTED;
 
 // The places of a list of cells, and the words of an answer: its number, its result word, those places and their count.
 pub const PLACES: usize = 15;
@@ -10,14 +14,14 @@ pub const PLACES: usize = 15;
 pub const ANSWER_WORDS: usize = PLACES + 3;
 
 // The cells read, in the order read. Places past the count are 0.
-#[derive(Clone, Copy)]
+#[derive(Clone, Copy, PartialEq, Eq)]
 pub struct Cells {
     pub at: [u32; PLACES],
     pub count: u32,
 }
 
 // An answer: its number and result word, up to fifteen cell numbers and their count.
-#[derive(Clone, Copy)]
+#[derive(Clone, Copy, PartialEq, Eq)]
 pub struct Answer {
     pub number: u32,
     pub word: u32,
@@ -72,15 +76,32 @@ impl Cells {
 }
 
 impl Answer {
-    // In words, as they are handed to other languages.
-    pub fn words(self) -> [u32; ANSWER_WORDS]
-        ensures { result ≡ answer_words self }
+    // The answer of what was found or refused, with the cells read.
+    pub fn new(reply: Result<u32, Refusal>, cells: Cells) -> Answer
+        ensures { result ≡ answer_of (outcome_of reply) cells }
     {
-        let cells = self.cells;
+        let (number, word) = match reply {
+            Ok(word) => (ACCEPTED, word),
+            Err(refusal) => (refusal.number(), refusal.word()),
+        };
+        Answer {
+            number,
+            word,
+            cells,
+        }
+    }
+}
+
+// In words, as an answer is handed to other languages.
+impl From<Answer> for [u32; ANSWER_WORDS] {
+    ghost from_gives = { λ answer words. words ≡ answer_words answer };
+
+    fn from(answer: Answer) -> [u32; ANSWER_WORDS] {
+        let cells = answer.cells;
         let at = cells.at;
         [
-            self.number,
-            self.word,
+            answer.number,
+            answer.word,
             at[0],
             at[1],
             at[2],
@@ -99,11 +120,13 @@ impl Answer {
             cells.count,
         ]
     }
+}
 
-    // The answer that stands in words.
-    pub fn of_words(words: [u32; ANSWER_WORDS]) -> Answer
-        ensures { answer_words result ≡ words }
-    {
+// The answer that stands in words.
+impl From<[u32; ANSWER_WORDS]> for Answer {
+    ghost from_gives = { λ words answer. answer_words answer ≡ words };
+
+    fn from(words: [u32; ANSWER_WORDS]) -> Answer {
         let at = [
             words[2], words[3], words[4], words[5], words[6], words[7], words[8], words[9],
             words[10], words[11], words[12], words[13], words[14], words[15], words[16],

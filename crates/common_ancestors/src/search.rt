@@ -8,14 +8,18 @@ ghost use Rattle.common_ancestors.specs.Parts.{first_tries, most_tries, Table, G
 use crate::trial::{depth_of, is_above, top_of, tried};
 use base::Node;
 use base::limits::MOST_ENTRIES;
-use base::numbers::{ACCEPTED, BROKEN};
 
-// What was found, or 9: an entry on both climbs, the climbs to it, from the less deep entry or, of `nearest`, from both, and how many entries were looked up and tested.
+// An entry on both climbs, and the climbs to it: from the less deep entry or, of `nearest`, from both.
+#[derive(Clone, Copy)]
+pub struct Shared {
+    pub class: Node,
+    pub climbs: u32,
+}
+
+// What a search found, none where the table is broken, and how many entries were looked up and tested.
 #[derive(Clone, Copy)]
 pub struct Found {
-    pub number: u32,
-    pub word: u32,
-    pub climbs: u32,
+    pub shared: Option<Shared>,
     pub tries: u32,
 }
 
@@ -32,26 +36,22 @@ pub struct Ends {
 pub(crate) fn nearest(table: &[u32], n: u32, u: Node, v: Node) -> Found
     requires { (Sized table.now n) × (u.0 < n) × (v.0 < n) }
     ensures few { result.tries ≤ most_tries }
-    ensures settled { result.number ≡ 0 → (result.word < n) × (result.climbs < climb_bound n) }
-    ensures right { (ps : List ℕ) → Table ps table.now n → ClassAndClimbs ps u.0 v.0 result }
+    ensures settled { OnSome result.shared (λ r. (r.class.0 < n) × (r.climbs < climb_bound n)) }
+    ensures right { (ps : List ℕ) → Table ps table.now n → ClassAndClimbs ps u.0 v.0 result.shared }
 {
     let du = depth_of(table, n, u);
     let dv = depth_of(table, n, v);
-    if n <= du {
-        return broken_after(0);
-    }
-    if n <= dv {
+    if n <= du || n <= dv {
         return broken_after(0);
     }
     let ends = by_depth(u, v, du, dv);
     let found = first_above(table, n, ends.first, ends.second, ends.depth);
-    if found.number != ACCEPTED {
-        return found;
-    }
+    let shared = found.shared.map(|near| Shared {
+        class: near.class,
+        climbs: near.climbs + near.climbs + ends.below,
+    });
     Found {
-        number: ACCEPTED,
-        word: found.word,
-        climbs: found.climbs + found.climbs + ends.below,
+        shared,
         tries: found.tries,
     }
 }
@@ -85,9 +85,10 @@ fn first_above(table: &[u32], n: u32, a: Node, b: Node, da: u32) -> Found
 {
     if is_above(table, a, b) {
         return Found {
-            number: ACCEPTED,
-            word: a.0,
-            climbs: 0,
+            shared: Some(Shared {
+                class: a,
+                climbs: 0,
+            }),
             tries: 0,
         };
     }
@@ -101,11 +102,8 @@ fn search(table: &[u32], n: u32, a: Node, b: Node, da: u32) -> Found
     ensures settled { Settled n da result }
     ensures right { (ps : List ℕ) → Given ps table.now n a.0 b.0 da → (Ancestor ps a.0 b.0 → ⊥) → Reaches ps a.0 b.0 result }
 {
-    let mut word = top_of(table, n);
-    if n <= word {
-        return broken_after(0);
-    }
-    if da == 0 {
+    let mut class = top_of(table, n);
+    if n <= class.0 || da == 0 {
         return broken_after(0);
     }
     let mut low: u32 = 1;
@@ -113,14 +111,14 @@ fn search(table: &[u32], n: u32, a: Node, b: Node, da: u32) -> Found
     let mut k: u32 = 1;
     let mut tries: u32 = 0;
     while low < high {
-        let t = tried(table, n, a, b, k);
+        let trial = tried(table, n, a, b, k);
         tries += 1;
-        if t.number != ACCEPTED {
+        let Some(trial) = trial else {
             return broken_after(tries);
-        }
-        if t.above {
+        };
+        if trial.above {
             high = k;
-            word = t.word;
+            class = trial.entry;
             k = middle(low, high);
         } else {
             low = k + 1;
@@ -128,21 +126,20 @@ fn search(table: &[u32], n: u32, a: Node, b: Node, da: u32) -> Found
         }
     }
     Found {
-        number: ACCEPTED,
-        word,
-        climbs: high,
+        shared: Some(Shared {
+            class,
+            climbs: high,
+        }),
         tries,
     }
 }
 
-// 9, after so many tries.
+// The table is broken, after so many tries.
 fn broken_after(tries: u32) -> Found
-    ensures { result ≡ record { number = 9; word = 0; climbs = 0; tries = tries } }
+    ensures { result ≡ record { shared = None; tries = tries } }
 {
     Found {
-        number: BROKEN,
-        word: 0,
-        climbs: 0,
+        shared: None,
         tries,
     }
 }

@@ -9,14 +9,13 @@ ghost use Rattle.common_ancestors.specs.Parts.{Table, Tells, Tried};
 use answers::ANSWER_WORDS;
 use base::Node;
 use base::limits::{HEADER_CELLS, ORDER};
-use base::numbers::{ACCEPTED, BROKEN};
+use base::numbers::ACCEPTED;
 use query::{ancestry, climb_words};
 
 // An entry of a climb, and whether it is at or above another.
 #[derive(Clone, Copy)]
 pub struct Trial {
-    pub number: u32,
-    pub word: u32,
+    pub entry: Node,
     pub above: bool,
 }
 
@@ -30,12 +29,12 @@ pub(crate) fn depth_of(table: &[u32], n: u32, v: Node) -> u32
 }
 
 // The first entry of ORDER: the top, where the table is prepared.
-pub(crate) fn top_of(table: &[u32], n: u32) -> u32
+pub(crate) fn top_of(table: &[u32], n: u32) -> Node
     requires { (Sized table.now n) × (0 < n) }
-    ensures { result ≡ word_at table.now (order_start n) }
+    ensures { result.0 ≡ word_at table.now (order_start n) }
 {
     let at = HEADER_CELLS as usize + ORDER as usize * n as usize;
-    table[at]
+    Node(table[at])
 }
 
 // Whether w is at or above b.
@@ -43,39 +42,22 @@ pub(crate) fn is_above(table: &[u32], w: Node, b: Node) -> bool
     ensures { (ps : List ℕ) (n : ℕ) → Table ps table.now n → w.0 < n → b.0 < n → Tells ps w.0 b.0 result }
 {
     let relation = ancestry(table, w, b);
-    if relation.number != ACCEPTED {
-        return false;
-    }
-    relation.word == 1
+    relation.number == ACCEPTED && relation.word == 1
 }
 
-// The entry k climbs above a, and whether it is at or above b; or 9.
-pub(crate) fn tried(table: &[u32], n: u32, a: Node, b: Node, k: u32) -> Trial
-    ensures entry { result.number ≡ 0 → result.word < n }
+// The entry k climbs above a, and whether it is at or above b; none where the table is broken.
+pub(crate) fn tried(table: &[u32], n: u32, a: Node, b: Node, k: u32) -> Option<Trial>
+    ensures entry { OnSome result (λ r. r.entry.0 < n) }
     ensures right { (ps : List ℕ) → Table ps table.now n → b.0 < n → (x : ℕ) → up ps k a.0 ≡ some x → Tried ps x b.0 result }
 {
     let mut words: [u32; ANSWER_WORDS] = [0; ANSWER_WORDS];
     climb_words(table, a, k, &mut words);
-    let word = words[1];
-    if words[0] != ACCEPTED {
-        return broken();
+    let entry = Node(words[1]);
+    if words[0] != ACCEPTED || n <= entry.0 {
+        return None;
     }
-    if n <= word {
-        return broken();
-    }
-    Trial {
-        number: ACCEPTED,
-        word,
-        above: is_above(table, Node(word), b),
-    }
-}
-
-fn broken() -> Trial
-    ensures { result ≡ record { number = 9; word = 0; above = false } }
-{
-    Trial {
-        number: BROKEN,
-        word: 0,
-        above: false,
-    }
+    Some(Trial {
+        entry,
+        above: is_above(table, entry, b),
+    })
 }

@@ -1,5 +1,5 @@
 -- Step 1 by itself: from its count, on a prepared table, and what it rests on. Assumes nothing.
-use Rattle.std.proofs.Common.{◌≡◌, ℕ, Bool, true, false, cond, eqb, ltb, List, [], ◌∷◌, length, sym, refl, ap, ◌∙◌}
+use Rattle.std.proofs.Common.{◌≡◌, ℕ, Bool, true, false, cond, eqb, ltb, List, [], ◌∷◌, length, Some, None, sym, refl, ap, ◌∙◌}
 use Rattle.base.specs.Limits.{most_entries, entries_of, table_words}
 use Rattle.base.specs.Lists.{has, some?}
 use Rattle.base.specs.Numbers.{accepted, broken}
@@ -13,22 +13,21 @@ use Rattle.answers.proofs.Runs.{run-done}
 use Rattle.answers.proofs.Numbers.{Ends, ends-run, numbers}
 use Rattle.climbs.proofs.Questions.{opened-run}
 use Rattle.query.specs.StepOne.{step_one}
-use Rattle.query.specs.Parts.{open_from, OpenedBy}
-use Rattle.query.specs.declared.look.Count.{Count}
-use Rattle.query.proofs.look.Counts.{open-broken, open_next}
+use Rattle.query.specs.Parts.{Opened}
+use Rattle.query.specs.declared.reading.Table.{Table}
 
-module _ (t : List ℕ) (o : Count) (by : OpenedBy t o) where
+module _ (t : List ℕ) where
   -- what any program that goes on with the count comes to, for the one that ends there
-  counted : outcome (open_from t o (λ n. done (accepted n))) ≡ step_one t
+  counted : outcome (answer_from t (listed []) (opened (length t) (λ n. done (accepted n)))) ≡ step_one t
   unfolding step_one
-  counted = ap outcome (by.goes (λ n. done (accepted n)) ∙ from_is t (listed []) (opened (length t) (λ n. done (accepted n))))
+  counted = ap outcome (from_is t (listed []) (opened (length t) (λ n. done (accepted n))))
 
-  pub step-broken : o.n ≡ 0 → broken ≡ step_one t
-  step-broken z = sym (ap outcome (open-broken t o (λ n. done (accepted n)) z)) ∙ counted
+  pub step-broken : Opened t None → broken ≡ step_one t
+  step-broken by = ap outcome (by (λ n. done (accepted n))) ∙ counted
 
-  pub step-accepted : (o.n ≡ 0 → ⊥) → accepted o.n ≡ step_one t
+  pub step-accepted : (r : Table) → Opened t (Some r) → accepted r.n ≡ step_one t
   unfolding answer_from
-  step-accepted z = sym (ap outcome (open_next t o (λ n. done (accepted n)) z)) ∙ counted
+  step-accepted r by = ap outcome (by.1 (λ n. done (accepted n))) ∙ counted
 
 -- on a prepared table it gives the number of entries
 pub step-prepared : (ps t : List ℕ) → Prepared ps t → step_one t ≡ accepted (length ps)

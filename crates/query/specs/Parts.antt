@@ -1,25 +1,20 @@
 -- What the parts of a question hand on. Assumes nothing.
-use Rattle.std.specs.Prelude.{◌≡◌, ℕ, ◌<◌, ◌≤◌, Bool, true, false, cond, List, [], ◌∷◌, length, ◌==◌, ◌≢◌, nat_lt, slice_index}
+use Rattle.std.specs.Prelude.{◌≡◌, ℕ, ◌-◌, ◌<◌, ◌≤◌, Bool, true, false, cond, List, [], ◌∷◌, length, ◌==◌, nat_lt, slice_index, Option, Some, None, Result, Ok, Err}
 use Rattle.std.proofs.Math.Option.{none}
-use Rattle.base.specs.Limits.{Sized, most_entries, table_words, group_limit, entries_of, depth_cell}
-use Rattle.base.specs.Numbers.{unknown}
+use Rattle.base.specs.Limits.{group_limit, depth_cell}
+use Rattle.base.specs.Numbers.{unknown, too_deep, broken}
 use Rattle.shapes.specs.Climbs.{reached}
 use Rattle.shapes.specs.Packed.{Packs}
-use Rattle.answers.specs.Reading.{Reading, done, read, if_le, word_at}
-use Rattle.answers.specs.Answers.{pick_cells, pushed, listed, answer_from, answer_words}
-use Rattle.answers.specs.Steps.{broken, opened}
+use Rattle.answers.specs.Reading.{Reading, done, read, if_le}
+use Rattle.answers.specs.Answers.{pick_cells, pushed, listed, answer_of, answer_from, answer_words}
+use Rattle.answers.specs.Steps.{opened, ancestor_at}
+use Rattle.answers.specs.Steps.{broken as broken_at}
 use Rattle.answers.specs.declared.Cells.{Cells}
 use Rattle.answers.specs.declared.Answer.{Answer}
-use Rattle.query.specs.declared.reading.Got.{Got}
+use Rattle.query.specs.Reads.{Held}
+use Rattle.query.specs.declared.reading.Table.{Table}
+use Rattle.query.specs.declared.reading.Entry.{Entry}
 use Rattle.query.specs.declared.relate.Relation.{Relation}
-use Rattle.query.specs.declared.look.Count.{Count}
-use Rattle.query.specs.declared.look.Found.{Found}
-
--- k cells were read: a list of them, unused places 0
-pub record Held (k : ℕ) (cs : Cells) : Type 0 where
-  pub list : List ℕ
-  pub long : length list ≡ k
-  pub is : cs ≡ listed list
 
 -- the cells of step 4: four at most, none of them cell 0
 pub record JumpCells (cs : Cells) : Type 0 where
@@ -31,62 +26,43 @@ pub record JumpCells (cs : Cells) : Type 0 where
 abbrev pub one_of : ℕ → ℕ
 one_of cell = cond (cell == 0) 0 1
 
--- one word read, and its cell listed
-abbrev pub got_at : List ℕ → ℕ → Cells → Got
-got_at t cell cs = record { word = word_at t cell; cells = pushed cs cell }
-
 abbrev pub pick_answer : Bool → Answer → Answer → Answer
 pick_answer true a b = a
 pick_answer false a b = b
 
 -- an entry with local number `local` in a group of shape `shape`, and its field of the shape's word
-pub record InGroup (t : List ℕ) (n group shape local field : ℕ) : Type 0 where
-  pub sized : Sized t n
+pub record InGroup (n group shape local field : ℕ) : Type 0 where
   pub group-in : group < n
   pub packs : Packs shape local field
   pub local-in : reached group_limit shape local 0 ≡ none → ⊥
-
--- step 1's tests of a count n on a table of `len` words: n where it passes, 0 where the table is broken
-unfoldable pub count_from : ℕ → ℕ → ℕ
-count_from len n = cond (nat_lt most_entries n) 0 (cond (nat_lt len (table_words n)) 0 n)
-
--- the count of a table by them, 0 too where it has fewer words than its header
-unfoldable pub count_in : List ℕ → ℕ
-count_in t = cond (nat_lt (length t) 4) 0 (count_from (length t) (entries_of (word_at t 0)))
 
 -- the cells that step 1 reads of a table of `len` words
 unfoldable pub first_of : ℕ → Cells
 first_of len = pick_cells (nat_lt len 4) (listed []) (pushed (listed []) 0)
 
--- what step 1 gives a program that goes on with the number of entries
-unfoldable pub open_from : List ℕ → Count → (ℕ → Reading) → Answer
-open_from t o next = pick_answer (o.n == 0) (record { number = 9; word = 0; cells = o.cells }) (answer_from t o.cells (next o.n))
-
--- step 1 was taken on the table t: a count that is not 0 has room, and any program goes on from there
-pub record OpenedBy (t : List ℕ) (o : Count) : Type 0 where
-  pub room : (o.n ≢ 0) → Sized t o.n
-  pub one : (o.n ≢ 0) → o.cells ≡ listed (0 ∷ [])
-  pub goes : (next : ℕ → Reading) → open_from t o next ≡ answer_from t (listed []) (opened (length t) next)
+-- step 1 was taken on the words t: any program goes on from the table that they are, or ends there
+abbrev pub Opened : List ℕ → Option Table → Type 0
+Opened t None = (next : ℕ → Reading) → answer_of broken (first_of (length t)) ≡ answer_from t (listed []) (opened (length t) next)
+Opened t (Some r) = (r.words.now ≡ t) × ((next : ℕ → Reading) → answer_from t (listed (0 ∷ [])) (next r.n) ≡ answer_from t (listed []) (opened (length t) next))
 
 -- steps 1 and 2 up to the depth of v, as the programs of the lookups start. Then `next`, with the number of entries and that depth
 unfoldable pub finding : ℕ → ℕ → (ℕ → ℕ → Reading) → Reading
-finding len v next = opened len (λ n. if_le n v (done (unknown v)) (read (depth_cell n v) (λ depth. if_le n depth broken (next n depth))))
+finding len v next = opened len (λ n. if_le n v (done (unknown v)) (read (depth_cell n v) (λ depth. if_le n depth broken_at (next n depth))))
 
--- they were taken on the table t: any program goes on from there or, by a count of 0, has ended in those words
-pub record FoundBy (t : List ℕ) (v : ℕ) (e : Found) (words : List ℕ) : Type 0 where
-  pub room : (e.n ≢ 0) → Sized t e.n
-  pub known : (e.n ≢ 0) → v < e.n
-  pub depth-in : (e.n ≢ 0) → e.depth < e.n
-  pub goes : (e.n ≢ 0) → (next : ℕ → ℕ → Reading) → answer_from t (listed (0 ∷ depth_cell e.n v ∷ [])) (next e.n e.depth) ≡ answer_from t (listed []) (finding (length t) v next)
-  pub ended : e.n ≡ 0 → (next : ℕ → ℕ → Reading) → words ≡ answer_words (answer_from t (listed []) (finding (length t) v next))
+-- they were taken on the words t: any program goes on from the entry v or, where there is none, has ended in the words of its answer
+abbrev pub FoundBy : List ℕ → ℕ → Option Entry → List ℕ → Type 0
+FoundBy t v None words = (next : ℕ → ℕ → Reading) → words ≡ answer_words (answer_from t (listed []) (finding (length t) v next))
+FoundBy t v (Some e) words =
+    (e.table.words.now ≡ t)
+    × (e.v.0 ≡ v)
+    × ((next : ℕ → ℕ → Reading) → answer_from t (listed (0 ∷ depth_cell e.table.n v ∷ [])) (next e.table.n e.depth) ≡ answer_from t (listed []) (finding (length t) v next))
 
--- the number of v, of that depth, where it is not deeper than d: 0 at depth d, 8 above it
-abbrev pub number_at : ℕ → ℕ → ℕ
-number_at depth d = cond (nat_lt depth d) 8 0
+-- so many climbs above v of that depth; where there are none, v is too deep
+abbrev pub climbed : ℕ → ℕ → ℕ → Option ℕ → Reading
+climbed n v depth None = done (too_deep v)
+climbed n v depth (Some k) = ancestor_at n v (depth - k) depth
 
--- what a relation of u to v gives two programs, one for "at or above" and one for not; or its refusal
-unfoldable pub related_from : List ℕ → Relation → (ℕ → Reading) → Reading → Answer
-related_from t r above apart =
-    pick_answer (r.number == 0)
-    (pick_answer r.above (answer_from t r.cells (above r.n)) (answer_from t r.cells apart))
-    (record { number = r.number; word = r.word; cells = r.cells })
+-- what a relation of u to v gives two programs, one for "at or above" and one for not; or the refusal
+abbrev pub related_from : Result Relation Answer → (ℕ → Reading) → Reading → Answer
+related_from (Ok r) above apart = pick_answer r.above (answer_from r.table.words.now r.cells.cells (above r.table.n)) (answer_from r.table.words.now r.cells.cells apart)
+related_from (Err a) above apart = a

@@ -1,77 +1,56 @@
 // Branch: past the ancestry test, the level lookup of v one deeper than u, its cells listed behind those so far.
 ghost use Rattle.std.specs.Prelude.{◌≡◌, ◌<◌, [], length};
-ghost use Rattle.base.specs.Limits.{Sized};
 ghost use Rattle.answers.specs.Answers.{listed, answer_from};
 ghost use Rattle.answers.specs.Steps.{branch, strictly, deeper};
-ghost use Rattle.query.specs.Parts.{Held};
 
 use crate::joining::with_ten;
-use crate::look::level_words;
-use crate::reading::{broken, read};
+use crate::level;
+use crate::reading::{Listed, Table};
 use crate::relate::relate;
-use answers::{ANSWER_WORDS, Answer, Cells};
-use base::Node;
+use answers::Answer;
 use base::limits::HEADER_CELLS;
-use base::numbers::{ACCEPTED, NOT_ABOVE, TOO_DEEP};
+use base::numbers::TOO_DEEP;
+use base::{Node, Refusal};
 
 pub(crate) fn child_towards(table: &[u32], u: Node, v: Node) -> Answer
     ensures { result ≡ answer_from table.now (listed []) (branch (length table.now) u.0 v.0) }
 {
-    let relation = relate(table, u, v);
-    let cells = relation.cells;
-    if relation.number != ACCEPTED {
-        return Answer {
-            number: relation.number,
-            word: relation.word,
-            cells,
-        };
+    match relate(table, u, v) {
+        Ok(relation) => {
+            if relation.above {
+                return strictly(relation.table, u, v, relation.cells);
+            }
+            Answer::new(Err(Refusal::NotAbove(u)), relation.cells.cells)
+        }
+        Err(refused) => refused,
     }
-    if !relation.above {
-        return Answer {
-            number: NOT_ABOVE,
-            word: u.0,
-            cells,
-        };
-    }
-    strictly(table, relation.n, u, v, cells)
 }
 
-pub(crate) fn strictly(table: &[u32], n: u32, u: Node, v: Node, cells: Cells) -> Answer
-    requires { (Sized table.now n) × (u.0 < n) × (Held 4 cells) }
-    ensures { result ≡ answer_from table.now cells (strictly (length table.now) u.0 v.0 n) }
+fn strictly(table: Table, u: Node, v: Node, cells: Listed<4>) -> Answer
+    requires { u.0 < table.n }
+    ensures { result ≡ answer_from table.entry.words.now cells.cells (strictly (length table.entry.words.now) u.0 v.0 table.entry.n) }
 {
-    if u.0 == v.0 {
-        return Answer {
-            number: NOT_ABOVE,
-            word: u.0,
-            cells,
-        };
+    if u == v {
+        return Answer::new(Err(Refusal::NotAbove(u)), cells.cells);
     }
-    let got = read(table, HEADER_CELLS, u.0, cells);
-    let depth = got.word;
-    let more = got.cells;
-    deeper(table, n, v, depth, more)
+    let got = table.read::<4, 5>(HEADER_CELLS, u.0, cells);
+    deeper(table, v, got.word, got.cells)
 }
 
 // An 8 of the level lookup is given as 9.
-fn deeper(table: &[u32], n: u32, v: Node, depth: u32, cells: Cells) -> Answer
-    requires { (Sized table.now n) × (Held 5 cells) }
-    ensures { result ≡ answer_from table.now cells (deeper (length table.now) v.0 n depth) }
+fn deeper(table: Table, v: Node, depth: u32, cells: Listed<5>) -> Answer
+    ensures { result ≡ answer_from table.entry.words.now cells.cells (deeper (length table.entry.words.now) v.0 table.entry.n depth) }
 {
-    if n <= depth {
-        return broken(cells);
+    if table.n <= depth {
+        return Answer::new(Err(Refusal::Broken), cells.cells);
     }
-    let mut words: [u32; ANSWER_WORDS] = [0; ANSWER_WORDS];
-    level_words(table, v, depth + 1, &mut words);
-    let inner = Answer::of_words(words);
-    let more = inner.cells;
-    let all = with_ten(cells, more);
+    let inner = level(table.words, v, depth + 1);
+    let all = with_ten(cells, inner.cells);
     if inner.number == TOO_DEEP {
-        return broken(all);
+        return Answer::new(Err(Refusal::Broken), all);
     }
     Answer {
-        number: inner.number,
-        word: inner.word,
         cells: all,
+        ..inner
     }
 }

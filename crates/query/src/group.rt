@@ -1,180 +1,151 @@
-// Step 3: within a group, and out of it. The answer is so many climbs up, at depth d.
+// Step 3: within a group, and out of it. The answer is so many climbs up, at the depth asked.
 ghost use Rattle.std.specs.Prelude.{◌≡◌, ◌+◌, ◌<◌};
-ghost use Rattle.base.specs.Limits.{Sized};
 ghost use Rattle.answers.specs.Answers.{answer_from, answer_words};
 ghost use Rattle.answers.specs.Steps.{after_parent_kind, after_parent, after_position, in_group, after_shape, from_group};
-ghost use Rattle.query.specs.Parts.{Held, InGroup};
+ghost use Rattle.query.specs.Parts.{InGroup};
 
 use crate::ends::end;
 use crate::joining::with_jump;
 use crate::jump::from_jump;
-use crate::reading::read;
-use answers::{ANSWER_WORDS, Cells};
+use crate::reading::{Asked, Listed, Table};
+use answers::{ANSWER_WORDS, Answer};
 use base::limits::{GROUP_WORDS, GROUPS, HEADER_CELLS, ORDER};
-use base::numbers::{ACCEPTED, BROKEN};
-use base::{Node, Position};
+use base::{Node, Position, Refusal};
 use shapes::{Climbs, climbs_of};
 
+// An entry of a group, by its local number there.
+#[derive(Clone, Copy)]
+pub struct Member {
+    pub group: u32,
+    pub local: u32,
+}
+
 pub(crate) fn from_group(
-    table: &[u32],
-    n: u32,
-    d: u32,
+    asked: Asked,
     climbs: u32,
-    group: u32,
-    local: u32,
-    cells: Cells,
+    member: Member,
+    cells: Listed<3>,
     words: &mut [u32; ANSWER_WORDS],
 )
-    requires { (Sized table.now n) × (Held 3 cells) × (d < n) }
-    ensures { words.new ≡ answer_words (answer_from table.now cells (from_group n d (d + climbs) group local)) }
+    ensures { words.new ≡ answer_words (answer_from asked.entry.table.words.now cells.cells (from_group asked.entry.table.n asked.entry.d (asked.entry.d + climbs) member.group member.local)) }
 {
-    if n <= group {
-        end(BROKEN, 0, cells, words);
+    let table = asked.table;
+    if table.n <= member.group {
+        end(Answer::new(Err(Refusal::Broken), cells.cells), words);
         return;
     }
-    let got = read(
-        table,
-        HEADER_CELLS + GROUPS * n + GROUP_WORDS * group,
+    let got = table.read::<3, 4>(
+        HEADER_CELLS + GROUPS * table.n + GROUP_WORDS * member.group,
         1,
         cells,
     );
-    let shape = got.word;
-    let more = got.cells;
-    after_shape(table, n, d, climbs, group, local, shape, more, words);
+    after_shape(asked, climbs, member, got.word, got.cells, words);
 }
 
 // The shape, which is one that has the local number: its climbs out are 0 where it has not, or where the number is that of no shape.
 fn after_shape(
-    table: &[u32],
-    n: u32,
-    d: u32,
+    asked: Asked,
     climbs: u32,
-    group: u32,
-    local: u32,
+    member: Member,
     shape: u32,
-    cells: Cells,
+    cells: Listed<4>,
     words: &mut [u32; ANSWER_WORDS],
 )
-    requires { (Sized table.now n) × (group < n) × (Held 4 cells) × (d < n) }
-    ensures { words.new ≡ answer_words (answer_from table.now cells (after_shape n d (d + climbs) group local shape)) }
+    requires { member.group < asked.table.n }
+    ensures { words.new ≡ answer_words (answer_from asked.entry.table.words.now cells.cells (after_shape asked.entry.table.n asked.entry.d (asked.entry.d + climbs) member.group member.local shape)) }
 {
-    let field = climbs_of(shape, local);
+    let field = climbs_of(shape, member.local);
     if field.out() == 0 {
-        end(BROKEN, 0, cells, words);
+        end(Answer::new(Err(Refusal::Broken), cells.cells), words);
         return;
     }
-    in_group(
-        table, n, d, climbs, group, shape, local, field, cells, words,
-    );
+    in_group(asked, climbs, member, shape, field, cells, words);
 }
 
 // Within the group where fewer climbs are asked than lead out of it, else from the group's parent, which just so many reach.
 fn in_group(
-    table: &[u32],
-    n: u32,
-    d: u32,
+    asked: Asked,
     climbs: u32,
-    group: u32,
+    member: Member,
     shape: u32,
-    local: u32,
     field: Climbs,
-    cells: Cells,
+    cells: Listed<4>,
     words: &mut [u32; ANSWER_WORDS],
 )
-    requires { (InGroup table.now n group shape local field.0) × (Held 4 cells) × (d < n) }
-    ensures { words.new ≡ answer_words (answer_from table.now cells (in_group n d (d + climbs) group local shape)) }
+    requires { InGroup asked.table.n member.group shape member.local field.0 }
+    ensures { words.new ≡ answer_words (answer_from asked.entry.table.words.now cells.cells (in_group asked.entry.table.n asked.entry.d (asked.entry.d + climbs) member.group member.local shape)) }
 {
+    let table = asked.table;
     let out = field.out();
     if out <= climbs {
-        let got = read(
-            table,
-            HEADER_CELLS + GROUPS * n + GROUP_WORDS * group,
+        let got = table.read::<4, 5>(
+            HEADER_CELLS + GROUPS * table.n + GROUP_WORDS * member.group,
             2,
             cells,
         );
-        let p = Node(got.word);
-        let more = got.cells;
-        after_parent(table, n, d, climbs - out, p, more, words);
+        after_parent(asked, climbs - out, Node(got.word), got.cells, words);
         return;
     }
-    let got = read(table, HEADER_CELLS + GROUPS * n, GROUP_WORDS * group, cells);
+    let got = table.read::<4, 5>(
+        HEADER_CELLS + GROUPS * table.n,
+        GROUP_WORDS * member.group,
+        cells,
+    );
     let to = field.reached(climbs);
-    let position = Position(got.word);
-    let more = got.cells;
-    after_position(table, n, to as u32, position, more, words);
+    after_position(table, to as u32, Position(got.word), got.cells, words);
 }
 
 // ORDER at the group's position plus the local number reached. The position is tested before the sum is made, so that the sum does not wrap.
 fn after_position(
-    table: &[u32],
-    n: u32,
+    table: Table,
     local: u32,
     position: Position,
-    cells: Cells,
+    cells: Listed<5>,
     words: &mut [u32; ANSWER_WORDS],
 )
-    requires { (Sized table.now n) × (local < 256) }
-    ensures { words.new ≡ answer_words (answer_from table.now cells (after_position n local position.0)) }
+    requires { local < 256 }
+    ensures { words.new ≡ answer_words (answer_from table.entry.words.now cells.cells (after_position table.entry.n local position.0)) }
 {
-    if n <= position.0 {
-        end(BROKEN, 0, cells, words);
+    if table.n <= position.0 {
+        end(Answer::new(Err(Refusal::Broken), cells.cells), words);
         return;
     }
     let at = Position(position.0 + local);
-    if n <= at.0 {
-        end(BROKEN, 0, cells, words);
+    if table.n <= at.0 {
+        end(Answer::new(Err(Refusal::Broken), cells.cells), words);
         return;
     }
-    let got = read(table, HEADER_CELLS + ORDER * n, at.0, cells);
+    let got = table.read::<5, 6>(HEADER_CELLS + ORDER * table.n, at.0, cells);
     let class = Node(got.word);
     let more = got.cells;
-    if n <= class.0 {
-        end(BROKEN, 0, more, words);
+    if table.n <= class.0 {
+        end(Answer::new(Err(Refusal::Broken), more.cells), words);
         return;
     }
-    end(ACCEPTED, class.0, more, words);
+    end(Answer::new(Ok(class.0), more.cells), words);
 }
 
 // The group's parent p, with the climbs that are left from there.
-fn after_parent(
-    table: &[u32],
-    n: u32,
-    d: u32,
-    left: u32,
-    p: Node,
-    cells: Cells,
-    words: &mut [u32; ANSWER_WORDS],
-)
-    requires { (Sized table.now n) × (Held 5 cells) × (d < n) }
-    ensures { words.new ≡ answer_words (answer_from table.now cells (after_parent n d (d + left) p.0)) }
+fn after_parent(asked: Asked, left: u32, p: Node, cells: Listed<5>, words: &mut [u32; ANSWER_WORDS])
+    ensures { words.new ≡ answer_words (answer_from asked.entry.table.words.now cells.cells (after_parent asked.entry.table.n asked.entry.d (asked.entry.d + left) p.0)) }
 {
-    if n <= p.0 {
-        end(BROKEN, 0, cells, words);
+    let table = asked.table;
+    if table.n <= p.0 {
+        end(Answer::new(Err(Refusal::Broken), cells.cells), words);
         return;
     }
     if left == 0 {
-        end(ACCEPTED, p.0, cells, words);
+        end(Answer::new(Ok(p.0), cells.cells), words);
         return;
     }
-    let got = read(table, HEADER_CELLS + n, p.0, cells);
-    let kind = got.word;
-    let more = got.cells;
-    after_parent_kind(table, n, d, kind, more, words);
+    let got = table.read::<5, 6>(HEADER_CELLS + table.n, p.0, cells);
+    after_parent_kind(asked, got.word, got.cells, words);
 }
 
 // KIND of the group's parent: step 4 from there, which refuses a micro one too. Six cells were read.
-fn after_parent_kind(
-    table: &[u32],
-    n: u32,
-    d: u32,
-    kind: u32,
-    cells: Cells,
-    words: &mut [u32; ANSWER_WORDS],
-)
-    requires { (Sized table.now n) × (Held 6 cells) × (d < n) }
-    ensures { words.new ≡ answer_words (answer_from table.now cells (after_parent_kind n d kind)) }
+fn after_parent_kind(asked: Asked, kind: u32, cells: Listed<6>, words: &mut [u32; ANSWER_WORDS])
+    ensures { words.new ≡ answer_words (answer_from asked.entry.table.words.now cells.cells (after_parent_kind asked.entry.table.n asked.entry.d kind)) }
 {
-    let a = from_jump(table, n, d, kind);
-    let all = with_jump(cells, 6, a);
-    end(a.number, a.word, all, words);
+    let a = from_jump(asked, kind);
+    end(with_jump(cells, a), words);
 }

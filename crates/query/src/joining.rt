@@ -1,37 +1,40 @@
 // Lists of cells, one behind another. Unused places are 0, so that each place is copied, used or not.
 ghost use Rattle.std.specs.Prelude.{◌≡◌, ◌≤◌, take};
 ghost use Rattle.answers.specs.Answers.{pushed_all};
-ghost use Rattle.query.specs.Parts.{Held, JumpCells, one_of};
+ghost use Rattle.query.specs.Reads.{Held};
+ghost use Rattle.query.specs.Parts.{JumpCells, one_of};
 
+use crate::reading::Listed;
 use answers::{Answer, Cells};
 use base::numbers::ACCEPTED;
 
-// The cells of step 4's answer behind i cells.
-pub(crate) fn with_jump(cells: Cells, i: u32, a: Answer) -> Cells
-    requires { (Held i cells) × (i ≤ 11) × (JumpCells a.cells) }
-    ensures { result ≡ pushed_all cells (take a.cells.count a.cells.at) }
+// Step 4's answer, with its cells behind the K read before.
+pub(crate) fn with_jump<const K: u32>(cells: Listed<K>, a: Answer) -> Answer
+    requires { (K ≤ 11) × (JumpCells a.cells) }
+    ensures { result ≡ record { number = a.number; word = a.word; cells = pushed_all cells.entry.cells (take a.cells.count a.cells.at) } }
 {
     let more = a.cells;
-    if a.number == ACCEPTED {
-        return with_four(cells, i, more);
-    }
-    let same = recounted(more);
-    with_four(cells, i, same)
+    let all = if a.number == ACCEPTED {
+        with_four(cells, more)
+    } else {
+        with_four(cells, recounted(more))
+    };
+    Answer { cells: all, ..a }
 }
 
-// Four cells at most behind i cells. With a constant i every place is one, so that nothing is held in memory.
-fn with_four(cells: Cells, i: u32, more: Cells) -> Cells
-    requires { (Held i cells) × (i ≤ 11) × (JumpCells more) }
-    ensures { result ≡ pushed_all cells (take more.count more.at) }
+// Four cells at most behind K cells. With a constant K every place is one, so that nothing is held in memory.
+fn with_four<const K: u32>(cells: Listed<K>, more: Cells) -> Cells
+    requires { (K ≤ 11) × (JumpCells more) }
+    ensures { result ≡ pushed_all cells.entry.cells (take more.count more.at) }
 {
     let at = more.at;
-    let k = i as usize;
-    let mut all = cells;
+    let k = K as usize;
+    let mut all = cells.cells;
     all.at[k] = at[0];
     all.at[k + 1] = at[1];
     all.at[k + 2] = at[2];
     all.at[k + 3] = at[3];
-    all.count = i + more.count;
+    all.count = K + more.count;
     all
 }
 
@@ -50,18 +53,15 @@ fn recounted(cells: Cells) -> Cells
 fn one(cell: u32) -> u32
     ensures { (result ≡ one_of cell) × (result ≤ 1) }
 {
-    if cell == 0 {
-        return 0;
-    }
-    1
+    u32::from(cell != 0)
 }
 
 // The cells of a level lookup, ten at most, behind the five of branch.
-pub(crate) fn with_ten(cells: Cells, more: Cells) -> Cells
-    requires { (Held 5 cells) × (Held more.count more) × (more.count ≤ 10) }
-    ensures { result ≡ pushed_all cells (take more.count more.at) }
+pub(crate) fn with_ten(cells: Listed<5>, more: Cells) -> Cells
+    requires { (Held more.count more) × (more.count ≤ 10) }
+    ensures { result ≡ pushed_all cells.cells (take more.count more.at) }
 {
-    let a = cells.at;
+    let a = cells.cells.at;
     let b = more.at;
     let at = [
         a[0], a[1], a[2], a[3], a[4], b[0], b[1], b[2], b[3], b[4], b[5], b[6], b[7], b[8], b[9],

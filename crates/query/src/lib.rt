@@ -10,17 +10,18 @@ mod look;
 mod reading;
 mod relate;
 
-ghost use Rattle.std.specs.Prelude.{◌≡◌, [], ◌∷◌};
+ghost use Rattle.std.specs.Prelude.{◌≡◌, [], ◌∷◌, IfOk};
+ghost use Rattle.std.specs.Fn.{FnOnceReturnsAtMut};
 ghost use Rattle.base.specs.Limits.{Sized};
-ghost use Rattle.base.specs.Numbers.{Says};
+ghost use Rattle.base.specs.Refusals.{outcome_of};
+ghost use Rattle.answers.specs.Answers.{answer_words};
 ghost use Rattle.tree.specs.Questions.{class_of, rating_of, climb_of, ancestry_of, branch_of};
 ghost use Rattle.answers.specs.Promises.{Answers, Gives, Few, Local, Right, RatesKnown, Smaller};
 ghost use Rattle.answers.specs.Steps.{level, climbing, rating, ancestry, branch};
 ghost use Rattle.query.specs.StepOne.{step_one};
 
 use answers::{ANSWER_WORDS, Answer};
-use base::numbers::{ACCEPTED, BROKEN};
-use base::{Node, Reply};
+use base::{Node, Refusal};
 pub use look::{climb_words, level_words, rating_words};
 
 // The level lookup: the class of v at depth d.
@@ -31,9 +32,7 @@ pub fn level(table: &[u32], v: Node, d: u32) -> Answer
     ensures local { Local (λ len. level len v.0 d) table.now result }
     ensures right { Right (λ ps. class_of ps v.0 d) table.now result }
 {
-    let mut words: [u32; ANSWER_WORDS] = [0; ANSWER_WORDS];
-    level_words(table, v, d, &mut words);
-    Answer::of_words(words)
+    answered(|words| level_words(table, v, d, words))
 }
 
 // The entry k climbs above v.
@@ -44,9 +43,7 @@ pub fn climb(table: &[u32], v: Node, k: u32) -> Answer
     ensures local { Local (λ len. climbing len v.0 k) table.now result }
     ensures right { Right (λ ps. climb_of ps v.0 k) table.now result }
 {
-    let mut words: [u32; ANSWER_WORDS] = [0; ANSWER_WORDS];
-    climb_words(table, v, k, &mut words);
-    Answer::of_words(words)
+    answered(|words| climb_words(table, v, k, words))
 }
 
 // The rating lookup: the class of v at depth d, or v itself where it is less deep.
@@ -59,9 +56,7 @@ pub fn rating(table: &[u32], v: Node, d: u32) -> Answer
     ensures known { RatesKnown v.0 d table.now result }
     ensures smaller { Smaller v.0 d table.now result }
 {
-    let mut words: [u32; ANSWER_WORDS] = [0; ANSWER_WORDS];
-    rating_words(table, v, d, &mut words);
-    Answer::of_words(words)
+    answered(|words| rating_words(table, v, d, words))
 }
 
 // Whether u is at or above v: the result is 1 or 0.
@@ -87,20 +82,22 @@ pub fn branch(table: &[u32], u: Node, v: Node) -> Answer
 }
 
 // Step 1 alone: the number of entries, or 9 for a broken table.
-pub fn entries(table: &[u32]) -> Reply
-    ensures answer { Says (step_one table.now) result.number result.word }
-    ensures sized { result.number ≡ 0 → Sized table.now result.word }
+pub fn entries(table: &[u32]) -> Result<u32, Refusal>
+    ensures answer { outcome_of result ≡ step_one table.now }
+    ensures sized { IfOk result (λ n. Sized table.now n) }
 {
-    let open = look::opened(table, table.len());
-    let n = open.n;
-    if n == 0 {
-        return Reply {
-            number: BROKEN,
-            word: 0,
-        };
+    match look::opened(table) {
+        Some(open) => Ok(open.n),
+        None => Err(Refusal::Broken),
     }
-    Reply {
-        number: ACCEPTED,
-        word: n,
-    }
+}
+
+// The answer that a lookup writes.
+fn answered<F: FnOnce(&mut [u32; ANSWER_WORDS])>(write: F) -> Answer
+    requires { F.IsAlwaysCallable write }
+    ensures { (before : _) × FnOnceReturnsAtMut F.FnOnce write before tt (answer_words result) }
+{
+    let mut words: [u32; ANSWER_WORDS] = [0; ANSWER_WORDS];
+    write(&mut words);
+    Answer::from(words)
 }

@@ -1,122 +1,73 @@
 // Steps 1 and 2: the table's count, and the entry with its depth. Then the way on by its kind. Each end writes its own words.
-// A slice that a function hands on is passed to it in memory. The three lookups, and `above`, take the table's length or a word themselves and hand a copy on: address and length are then
-// passed in registers.
-ghost use Rattle.std.specs.Prelude.{◌≡◌, ◌+◌, ◌<◌, [], ◌∷◌, length};
-ghost use Rattle.base.specs.Limits.{Sized, table_words};
+ghost use Rattle.std.specs.Prelude.{◌≡◌, ◌+◌, ◌<◌, ◌≤◌, [], ◌∷◌, length, IfSome};
+ghost use Rattle.base.specs.Limits.{Sized, table_words, depth_cell};
 ghost use Rattle.answers.specs.Reading.{read};
 ghost use Rattle.answers.specs.Answers.{listed, answer_from, answer_to, answer_words};
 ghost use Rattle.answers.specs.Steps.{level, climbing, rating, after_kind};
-ghost use Rattle.query.specs.Parts.{Held, count_in, first_of, OpenedBy, FoundBy, number_at};
+ghost use Rattle.query.specs.Parts.{Opened, FoundBy, first_of, climbed};
 
-use crate::ends::{end, put};
-use crate::group::from_group;
+use crate::ends::end;
+use crate::group::{Member, from_group};
 use crate::joining::with_jump;
 use crate::jump::from_jump;
-use crate::reading::read;
-use answers::{ANSWER_WORDS, Cells};
-use base::Node;
+use crate::reading::{Asked, Entry, Listed, Table};
+use answers::{ANSWER_WORDS, Answer, Cells};
 use base::limits::{
     HEADER_CELLS, HEADER_MARK, LOCAL_SPAN, MICRO_MARK, MOST_ENTRIES, entries_of, table_words,
 };
-use base::numbers::{ACCEPTED, BROKEN, TOO_DEEP, UNKNOWN};
+use base::{Node, Refusal};
 
 const HEADER: usize = HEADER_CELLS as usize;
 
 // The level lookup, in words of the caller's.
+#[inline(always)]
 pub fn level_words(table: &[u32], v: Node, d: u32, words: &mut [u32; ANSWER_WORDS])
     ensures { words.new ≡ answer_words (answer_to table.now (level (length table.now) v.0 d)) }
 {
-    let rest = table;
-    let at = find(rest, table.len(), v, words);
-    if at.n == 0 {
-        return;
+    if let Some(entry) = find(table, v, words) {
+        climbed(entry, (d <= entry.depth).then(|| entry.depth - d), words);
     }
-    let cell = HEADER_CELLS + v.0;
-    if at.depth <= d {
-        put(number_at(at.depth, d), v.0, first_two(cell), words);
-        return;
-    }
-    above(rest, at.depth - d, cell, d, words, at.n);
 }
 
 // The entry k climbs above v, in words of the caller's.
 pub fn climb_words(table: &[u32], v: Node, k: u32, words: &mut [u32; ANSWER_WORDS])
     ensures { words.new ≡ answer_words (answer_to table.now (climbing (length table.now) v.0 k)) }
 {
-    let rest = table;
-    let at = find(rest, table.len(), v, words);
-    if at.n == 0 {
-        return;
+    if let Some(entry) = find(table, v, words) {
+        climbed(entry, (k <= entry.depth).then_some(k), words);
     }
-    let cell = HEADER_CELLS + v.0;
-    if at.depth < k {
-        end(TOO_DEEP, v.0, first_two(cell), words);
-        return;
-    }
-    if k == 0 {
-        end(ACCEPTED, v.0, first_two(cell), words);
-        return;
-    }
-    above(rest, k, cell, at.depth - k, words, at.n);
 }
 
 // The rating lookup, in words of the caller's: an entry that is not deeper than the level is rated as itself.
 pub fn rating_words(table: &[u32], v: Node, level: u32, words: &mut [u32; ANSWER_WORDS])
     ensures { words.new ≡ answer_words (answer_to table.now (rating (length table.now) v.0 level)) }
 {
-    let rest = table;
-    let at = find(rest, table.len(), v, words);
-    if at.n == 0 {
-        return;
+    if let Some(entry) = find(table, v, words) {
+        climbed(entry, Some(entry.depth.saturating_sub(level)), words);
     }
-    let cell = HEADER_CELLS + v.0;
-    if at.depth <= level {
-        put(ACCEPTED, v.0, first_two(cell), words);
-        return;
-    }
-    above(rest, at.depth - level, cell, level, words, at.n);
 }
 
-// What step 1 finds: the number of entries, 0 where the table is broken.
-#[derive(Clone, Copy)]
-pub struct Count {
-    pub n: u32,
-    pub cells: Cells,
-}
-
-pub(crate) fn opened(table: &[u32], len: usize) -> Count
-    requires { len ≡ length table.now }
-    ensures { OpenedBy table.now result }
+// Step 1: the table by cell 0 and its length, none where it is broken.
+pub(crate) fn opened(words: &[u32]) -> Option<Table>
+    ensures { Opened words.now result }
 {
-    let n = counted(table, len);
-    let cells = first(len);
-    Count { n, cells }
-}
-
-// The number of entries by cell 0 and the table's length, 0 where the table is broken.
-fn counted(table: &[u32], len: usize) -> u32
-    requires { len ≡ length table.now }
-    ensures { result ≡ count_in table.now }
-{
+    let len = words.len();
     if len < HEADER {
-        return 0;
+        return None;
     }
-    let cell = table[0];
-    if cell <= HEADER_MARK {
-        return 0;
-    }
-    if HEADER_MARK + MOST_ENTRIES < cell {
-        return 0;
+    let cell = words[0];
+    if cell <= HEADER_MARK || HEADER_MARK + MOST_ENTRIES < cell {
+        return None;
     }
     let n = entries_of(cell);
     if len < table_words(n) {
-        return 0;
+        return None;
     }
-    n
+    Some(Table { words, n })
 }
 
-// The cells that step 1 reads: cell 0, where there are as many words as the header has.
-fn first(len: usize) -> Cells
+// The cells that step 1 reads of a table that is broken: cell 0, where there are as many words as the header has.
+pub(crate) fn first(len: usize) -> Cells
     ensures { result ≡ first_of len }
 {
     let cells = Cells::new();
@@ -126,100 +77,105 @@ fn first(len: usize) -> Cells
     cells.push(0)
 }
 
-// What step 2 finds: the number of entries and the depth of v. Where the lookup has ended, its words are written, and n is 0.
-#[derive(Clone, Copy)]
-pub struct Found {
-    pub n: u32,
-    pub depth: u32,
-}
-
-fn find(table: &[u32], len: usize, v: Node, words: &mut [u32; ANSWER_WORDS]) -> Found
-    requires { len ≡ length table.now }
+// Steps 1 and 2. Where the lookup ends there, its words are written, and there is no entry.
+fn find<'a>(table: &'a [u32], v: Node, words: &mut [u32; ANSWER_WORDS]) -> Option<Entry<'a>>
     ensures { FoundBy table.now v.0 result words.new }
 {
-    let open = opened(table, len);
-    let n = open.n;
-    let cells = open.cells;
-    if n == 0 {
-        end(BROKEN, 0, cells, words);
-        return Found { n: 0, depth: 0 };
+    let len = table.len();
+    let Some(table) = opened(table) else {
+        end(Answer::new(Err(Refusal::Broken), first(len)), words);
+        return None;
+    };
+    let none = Listed::new();
+    let one: Listed<1> = none.push(0);
+    if table.n <= v.0 {
+        end(Answer::new(Err(Refusal::Unknown(v)), one.cells), words);
+        return None;
     }
-    if n <= v.0 {
-        end(UNKNOWN, v.0, cells, words);
-        return Found { n: 0, depth: 0 };
-    }
-    let got = read(table, HEADER_CELLS, v.0, cells);
+    let got = table.read::<1, 2>(HEADER_CELLS, v.0, one);
     let depth = got.word;
-    let more = got.cells;
-    if n <= depth {
-        end(BROKEN, 0, more, words);
-        return Found { n: 0, depth: 0 };
+    let two = got.cells;
+    if table.n <= depth {
+        end(Answer::new(Err(Refusal::Broken), two.cells), words);
+        return None;
     }
-    Found { n, depth }
+    Some(Entry { table, v, depth })
 }
 
 // The cells read before KIND: cell 0, and that of DEPTH.
-fn first_two(cell: u32) -> Cells
-    ensures { result ≡ listed (0 ∷ cell ∷ []) }
+fn first_two(cell: u32) -> Listed<2>
+    ensures { result.cells ≡ listed (0 ∷ cell ∷ []) }
 {
-    let none = Cells::new();
-    let one = none.push(0);
+    let none = Listed::new();
+    let one: Listed<1> = none.push(0);
     one.push(cell)
 }
 
-// The number of v where it is not deeper than d: 0 at depth d, 8 above it.
-fn number_at(depth: u32, d: u32) -> u32
-    ensures { result ≡ number_at depth d }
+// Past step 2, so many climbs above an entry; 8 where there are none.
+#[inline(always)]
+fn climbed(entry: Entry, climbs: Option<u32>, words: &mut [u32; ANSWER_WORDS])
+    requires { IfSome climbs (λ k. k ≤ entry.depth) }
+    ensures { words.new ≡ answer_words (answer_from entry.entry.table.words.now (listed (0 ∷ depth_cell entry.entry.table.n entry.entry.v.0 ∷ [])) (climbed entry.entry.table.n entry.entry.v.0 entry.entry.depth climbs)) }
 {
-    if depth < d {
-        return TOO_DEEP;
+    let v = entry.v;
+    let cell = HEADER_CELLS + v.0;
+    let Some(climbs) = climbs else {
+        end(
+            Answer::new(Err(Refusal::TooDeep(v)), first_two(cell).cells),
+            words,
+        );
+        return;
+    };
+    if climbs == 0 {
+        end(Answer::new(Ok(v.0), first_two(cell).cells), words);
+        return;
     }
-    ACCEPTED
+    let table = entry.table;
+    above(
+        table.words,
+        climbs,
+        cell,
+        entry.depth - climbs,
+        words,
+        table.n,
+    );
 }
 
 // Past step 2, from the cell of DEPTH of an entry to so many climbs above it, at depth d: KIND is n cells on. The parameters stand in an order
 // in which few registers are moved between the C functions and this one.
+#[inline(never)]
 fn above(table: &[u32], climbs: u32, cell: u32, d: u32, words: &mut [u32; ANSWER_WORDS], n: u32)
     requires { (Sized table.now n) × (cell + n < table_words n) × (d < n) }
     ensures { words.new ≡ answer_words (answer_from table.now (listed (0 ∷ cell ∷ [])) (read (cell + n) (after_kind n d (d + climbs)))) }
 {
-    let rest = table;
     let next = cell + n;
     let at = next as usize;
     let kind = table[at];
     let two = first_two(cell);
     let three = two.push(next);
-    after_kind(rest, n, d, climbs, kind, three, words);
+    let table = Table { words: table, n };
+    after_kind(Asked { table, d }, climbs, kind, three, words);
 }
 
 // By KIND: a group, or straight to step 4. Three cells were read.
 fn after_kind(
-    table: &[u32],
-    n: u32,
-    d: u32,
+    asked: Asked,
     climbs: u32,
     kind: u32,
-    cells: Cells,
+    cells: Listed<3>,
     words: &mut [u32; ANSWER_WORDS],
 )
-    requires { (Sized table.now n) × (Held 3 cells) × (d < n) }
-    ensures { words.new ≡ answer_words (answer_from table.now cells (after_kind n d (d + climbs) kind)) }
+    ensures { words.new ≡ answer_words (answer_from asked.entry.table.words.now cells.cells (after_kind asked.entry.table.n asked.entry.d (asked.entry.d + climbs) kind)) }
 {
     if MICRO_MARK <= kind {
         let x = kind - MICRO_MARK;
-        from_group(
-            table,
-            n,
-            d,
-            climbs,
-            x / LOCAL_SPAN,
-            x % LOCAL_SPAN,
-            cells,
-            words,
-        );
+        let member = Member {
+            group: x / LOCAL_SPAN,
+            local: x % LOCAL_SPAN,
+        };
+        from_group(asked, climbs, member, cells, words);
         return;
     }
-    let a = from_jump(table, n, d, kind);
-    let all = with_jump(cells, 3, a);
-    end(a.number, a.word, all, words);
+    let a = from_jump(asked, kind);
+    end(with_jump(cells, a), words);
 }

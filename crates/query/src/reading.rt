@@ -1,55 +1,90 @@
-// Reading a section of the table, with the cell listed.
-ghost use Rattle.std.specs.Prelude.{◌≡◌, ℕ, ◌+◌, ◌^◌, ◌<◌, List, length};
-ghost use Rattle.base.specs.Numbers.{broken};
-ghost use Rattle.answers.specs.Answers.{answer_from};
-ghost use Rattle.answers.specs.Steps.{after_class};
-ghost use Rattle.query.specs.Parts.{got_at};
+// A table that has passed step 1, and reading a section of it, with the cell listed.
+ghost use Rattle.std.specs.Prelude.{◌≡◌, ◌+◌, ◌^◌, ◌<◌, [], length};
+ghost use Rattle.base.specs.Limits.{Sized};
+ghost use Rattle.answers.specs.Answers.{listed, pushed};
+ghost use Rattle.query.specs.Reads.{Held, Reads};
 
-use answers::{Answer, Cells};
+use answers::Cells;
 use base::Node;
-use base::numbers::{ACCEPTED, BROKEN};
 use std::num::wrapping_add_u32;
+
+// A table of n entries: step 1 has passed its words.
+#[derive(Clone, Copy)]
+pub struct Table<'a> {
+    pub words: &'a [u32],
+    pub n: u32,
+    ghost sized: { Sized words.now n },
+}
+
+// A depth asked in a table: that of an entry.
+#[derive(Clone, Copy)]
+pub struct Asked<'a> {
+    pub table: Table<'a>,
+    pub d: u32,
+    ghost within: { d < table.n },
+}
+
+// An entry v of a table, with its depth.
+#[derive(Clone, Copy)]
+pub struct Entry<'a> {
+    pub table: Table<'a>,
+    pub v: Node,
+    pub depth: u32,
+    ghost known: { v.0 < table.n },
+    ghost within: { depth < table.n },
+}
+
+// The cells read so far, of which there are K.
+#[derive(Clone, Copy)]
+pub struct Listed<const K: u32> {
+    pub cells: Cells,
+    ghost held: { Held K cells },
+}
 
 // A word that was read, and the cells read so far.
 #[derive(Clone, Copy)]
-pub struct Got {
+pub struct Got<const K: u32> {
     pub word: u32,
-    pub cells: Cells,
+    pub cells: Listed<K>,
 }
 
-// The word at a place of a section, which starts at a cell. The sum may wrap by its type, so that the compiler makes it once: for the list, and for the address.
-pub(crate) fn read(table: &[u32], start: u32, place: u32, cells: Cells) -> Got
-    requires { (start + place < length table.now) × (start + place < 2 ^ 32) }
-    ensures { result ≡ got_at table.now (start + place) cells }
-{
-    let cell = wrapping_add_u32(start, place);
-    let at = cell as usize;
-    let word = table[at];
-    let more = cells.push(cell);
-    Got { word, cells: more }
-}
-
-// 9: the table is broken.
-pub(crate) fn broken(cells: Cells) -> Answer
-    ensures { result ≡ record { number = broken.number; word = broken.word; cells = cells } }
-{
-    Answer {
-        number: BROKEN,
-        word: 0,
-        cells,
+impl Listed<0> {
+    pub(crate) fn new() -> Listed<0>
+        ensures { result.cells ≡ listed [] }
+    {
+        Listed {
+            cells: Cells::new(),
+        }
     }
 }
 
-// A word that is to be the answer is an entry.
-pub(crate) fn after_class(n: u32, w: Node, cells: Cells) -> Answer
-    ensures { (t : List ℕ) → result ≡ answer_from t cells (after_class n w.0) }
-{
-    if n <= w.0 {
-        return broken(cells);
+impl<const K: u32> Listed<K> {
+    // The list with one cell more.
+    pub(crate) fn push<const L: u32>(self, cell: u32) -> Listed<L>
+        requires { (L ≡ K + 1) × (K < 15) }
+        ensures { result.cells ≡ pushed self.entry.cells cell }
+    {
+        Listed {
+            cells: self.cells.push(cell),
+        }
     }
-    Answer {
-        number: ACCEPTED,
-        word: w.0,
-        cells,
+}
+
+impl Table<'_> {
+    // The word at a place of a section, which starts at a cell. The sum may wrap by its type, so that the compiler makes it once: for the list, and for the address.
+    pub(crate) fn read<const K: u32, const L: u32>(
+        self,
+        start: u32,
+        place: u32,
+        cells: Listed<K>,
+    ) -> Got<L>
+        requires { (start + place < length self.words.now) × (start + place < 2 ^ 32) × (L ≡ K + 1) × (K < 15) }
+        ensures { Reads self.entry.words.now (start + place) cells.entry.cells result.word result.cells.cells }
+    {
+        let cell = wrapping_add_u32(start, place);
+        let at = cell as usize;
+        let word = self.words[at];
+        let more = cells.push(cell);
+        Got { word, cells: more }
     }
 }

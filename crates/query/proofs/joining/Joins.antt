@@ -6,14 +6,15 @@ use lib.Seq.{set-append_seam, sets, take-append_seam}
 use Rattle.base.specs.Lists.{each, below, padded}
 use Rattle.base.proofs.Lists.{each-length, below_at}
 use Rattle.base.proofs.Joins.{padded-length, padded-in, padded-past}
-use Rattle.answers.specs.Reading.{Reading, trace}
+use Rattle.answers.specs.Reading.{Reading, Within, trace}
 use Rattle.answers.specs.Answers.{pushed_all, listed, answer_to, answer_from}
 use Rattle.answers.specs.Steps.{from_jump}
 use Rattle.answers.specs.declared.Answer.{Answer}
 use Rattle.answers.specs.declared.Cells.{Cells}
 use Rattle.answers.proofs.ProgramAnswers.{push-all-listed, from_is, whole, few, cells-listed}
 use Rattle.answers.proofs.Bounds.{jump-within}
-use Rattle.query.specs.Parts.{Held}
+use Rattle.query.specs.Reads.{Held}
+use Rattle.query.proofs.Programs.{Listing, listing-held}
 
 -- a part's answer with its cells behind those so far is the answer of going on with it
 pub part-goes : (t : List ℕ) (cs : Cells) (p : Reading) (a : Answer) (all : Cells) → a ≡ answer_to t p → all ≡ pushed_all cs (take a.cells.count a.cells.at)
@@ -24,9 +25,9 @@ part-goes t cs p a all e h =
     rw (e, cells) (sym (from_is t cs p))
 
 -- an answer lists the cells that it has read
-pub answer-held : (t : List ℕ) (p : Reading) (a : Answer) → a ≡ answer_to t p → Held a.cells.count a.cells
+pub answer-held : (t : List ℕ) (p : Reading) (a : Answer) (b : ℕ) → Within b p → b ≤ 15 → a ≡ answer_to t p → Held a.cells.count a.cells
 unfolding answer_to listed
-answer-held t p a e = rw e (record { list = trace t p; long = refl; is = refl })
+answer-held t p a b w h e = let f : length (trace t p) ≤ b = few t b p w in rw e (listing-held (trace t p) (omega arith))
 
 -- step 4's answer
 module _ (t : List ℕ) (n d jump : ℕ) (a : Answer) (e : a ≡ answer_from t (listed []) (from_jump n d jump)) where
@@ -37,7 +38,7 @@ module _ (t : List ℕ) (n d jump : ℕ) (a : Answer) (e : a ≡ answer_from t (
   jump-four = rw jump-answer (few t 4 (from_jump n d jump) (jump-within n d jump))
 
   pub jump-held : Held a.cells.count a.cells
-  jump-held = answer-held t (from_jump n d jump) a jump-answer
+  jump-held = answer-held t (from_jump n d jump) a 4 (jump-within n d jump) (lit≤ tt) jump-answer
 
   pub jump_goes : (cs all : Cells) → all ≡ pushed_all cs (take a.cells.count a.cells.at) → record { number = a.number; word = a.word; cells = all } ≡ answer_from t cs (from_jump n d jump)
   jump_goes cs all h = part-goes t cs (from_jump n d jump) a all jump-answer h
@@ -85,7 +86,7 @@ behind xs ys j h r =
     let t : take (length ys) (padded 15 ys) ≡ ys = unfold padded in take-append_seam ys _ in
     rw (first-places 15 j ys h, padded-behind 15 j xs ys h r, ← (length-append xs ys), t) (sym (push-all-listed xs ys (omega arith)))
 
-module _ (cs more : Cells) (k : ℕ) (a : Held k cs) (b : Held more.count more) where
+module _ (cs more : Cells) (k : ℕ) (a : Listing k cs) (b : Listing more.count more) where
   -- by four stores
   pub four-behind : k ≤ 11 → more.count ≤ 4
       → record { at = set (set (set (set cs.at k (get_or more.at 0 0)) (k + 1) (get_or more.at 1 0)) (k + 2) (get_or more.at 2 0)) (k + 3) (get_or more.at 3 0); count = k + more.count } ≡ pushed_all cs (take more.count more.at)

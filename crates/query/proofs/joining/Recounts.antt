@@ -10,6 +10,7 @@ use Rattle.answers.specs.declared.Answer.{Answer}
 use Rattle.answers.specs.declared.Cells.{Cells}
 use Rattle.answers.proofs.ProgramAnswers.{listed_at}
 use Rattle.query.specs.Parts.{JumpCells, one_of}
+use Rattle.query.proofs.Programs.{listing}
 use Rattle.query.proofs.joining.Joins.{jump-answer, jump-four, jump-held}
 
 -- a program that does not read cell 0
@@ -89,7 +90,8 @@ count-is (a ∷ b ∷ c ∷ d ∷ e ∷ xs) h u = absurd (omega arith)
 
 pub recount : (cs : Cells) → JumpCells cs → ones cs ≡ cs.count
 recount cs j =
-    let xs = j.held.list in
-    let is = j.held.is in
-    let long = j.held.long in
+    let held = listing cs.count cs j.held in
+    let xs = held.list in
+    let is = held.is in
+    let long = held.long in
     ap ones is ∙ count-is xs (omega (arith, long, j.four)) (λ i b. rw (← (listed_at xs i b), ← is) (j.used i (omega (arith, long)))) ∙ long

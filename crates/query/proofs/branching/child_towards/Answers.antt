@@ -1,26 +1,25 @@
 -- `branching::child_towards` meets its contract. Assumes nothing.
-use Rattle.std.proofs.Common.{sym, ◌∙◌}
-use borrow.Author.Tests.{not-true, not-false}
+use Rattle.std.proofs.Common.{length}
+use Rattle.base.specs.Numbers.{not_above}
+use Rattle.answers.specs.Reading.{done}
 use Rattle.answers.specs.Answers.{answer_from}
-use Rattle.answers.specs.Steps.{branch}
-use Rattle.query.proofs.relate.Relations.{relation-refused, relation-apart, relation-above}
+use Rattle.answers.specs.Steps.{strictly, branch}
 use Rattle.query.proofs.branching.child_towards.Goals as goal
 
-pub returns-then-relation-ne-ACCEPTED : goal.returns-then-relation-ne-ACCEPTED
-unfolding branch answer_from
-returns-then-relation-ne-ACCEPTED c =
-    let r = c.relate-relation in sym (relation-refused _ r.result _ _ c.if-relation-ne-ACCEPTED.true) ∙ r.ensures.goes _ _
+pub returns-then-relation : goal.returns-then-relation
+unfolding branch
+returns-then-relation c =
+    let args = c.args in
+    let known = c.in-Ok.ensures.known.0 in
+    let goes = c.in-Ok.ensures.goes (strictly (length args.table.now) args.u.0 args.v.0) (done (not_above args.u.0)) in
+    rw (c.strictly.ensures, known) (rw (c.if-relation.true, known) at goes)
 
-pub returns-then-not-relation : goal.returns-then-not-relation
+pub returns-else-relation : goal.returns-else-relation
 unfolding branch answer_from
-returns-then-not-relation c =
-    let r = c.relate-relation in sym (relation-apart _ r.result _ _ c.if-relation-ne-ACCEPTED.false (not-true _ c.if-not-relation.true)) ∙ r.ensures.goes _ _
+returns-else-relation c =
+    let goes = rw c.if-relation.false at c.in-Ok.ensures.goes _ _ in
+    rw c.new.ensures goes
 
-pub strictly-requires : goal.strictly-requires
-unfolding branch answer_from
-strictly-requires c = c.relate-relation.ensures.known c.if-relation-ne-ACCEPTED.false
-
-pub returns : goal.returns
-unfolding branch answer_from
-returns c =
-    let r = c.relate-relation in c.strictly.ensures ∙ sym (relation-above _ r.result _ _ c.if-relation-ne-ACCEPTED.false (not-false _ c.if-not-relation.false)) ∙ r.ensures.goes _ _
+pub returns-in-Err : goal.returns-in-Err
+unfolding branch
+returns-in-Err c = c.in-Err.ensures.goes _ _

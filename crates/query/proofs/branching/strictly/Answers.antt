@@ -1,17 +1,14 @@
 -- `branching::strictly` meets its contract. Assumes nothing.
-use Rattle.std.proofs.Common.{lit<, rules}
+use Rattle.std.proofs.Common.{sym}
+use Rattle.std.proofs.lemmas.Bool.{eqb-true, eqb-false}
 use Rattle.answers.specs.Steps.{strictly}
-use Rattle.query.proofs.Programs.{steps, got-held}
+use Rattle.query.proofs.Programs.{steps, eq_yes, eq_no}
 use Rattle.query.proofs.branching.strictly.Goals as goal
 
-pub returns-then-u-v : goal.returns-then-u-v
+pub returns-then-eq : goal.returns-then-eq
 unfolding strictly
-returns-then-u-v c = search steps
-
-pub deeper-requires : goal.deeper-requires
-unfolding strictly
-deeper-requires c = (search rules, got-held _ _ _ _ 4 c.read-got.ensures c.requires.2 (lit< tt))
+returns-then-eq c = eq_yes _ _ _ _ _ _ _ (eqb-true _ _ (sym c.if-eq.ensures)) (search steps)
 
 pub returns : goal.returns
 unfolding strictly
-returns c = search steps
+returns c = eq_no _ _ _ _ _ _ _ (eqb-false _ _ (sym c.if-eq.ensures)) (search steps)

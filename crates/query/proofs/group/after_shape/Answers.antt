@@ -1,16 +1,16 @@
 -- `group::after_shape` meets its contract. Assumes nothing.
-use Rattle.std.proofs.Common.{◌≡◌, ℕ, ◌≤◌, List, ap, ◌∙◌, arith}
+use Rattle.std.proofs.Common.{◌≡◌, ℕ, ◌≤◌, List, arith}
 use mathlib.Core.Option.{none}
 use native.Mathlib.Decide.{dec_le}
 use Rattle.base.specs.Limits.{group_limit, shape_count}
 use Rattle.shapes.specs.Climbs.{reached}
 use Rattle.shapes.proofs.Rule.{known-shape}
 use Rattle.shapes.proofs.Fields.{outside, inside, there}
-use Rattle.answers.specs.Answers.{answer_from, answer_words}
+use Rattle.answers.specs.Answers.{answer_from}
 use Rattle.answers.specs.Steps.{broken, after_shape}
 use Rattle.answers.specs.declared.Answer.{Answer}
 use Rattle.answers.specs.declared.Cells.{Cells}
-use Rattle.query.proofs.Programs.{steps, le_yes, le-no, is_none}
+use Rattle.query.proofs.Programs.{steps, written, le_yes, le-no, is_none}
 use Rattle.query.proofs.group.after_shape.Goals as goal
 
 -- a local number that is not there is refused by one of two tests
@@ -26,25 +26,22 @@ pub returns-then-out-eq0 : goal.returns-then-out-eq0
 unfolding after_shape
 returns-then-out-eq0 c =
     let absent = outside _ _ _ c.climbs_of-field.ensures _ c.out.ensures c.if-out-eq0.true in
-    c.end.ensures ∙ ap answer_words (not_there _ _ _ _ _ _ _ _ _ absent (search steps))
+    written _ _ _ c.end.ensures (not_there _ _ _ _ _ _ _ _ _ absent (search steps))
 
 pub in_group-requires : goal.in_group-requires
 unfolding after_shape
-in_group-requires c = (
-  record {
-    sized = c.requires.0;
-    group-in = c.requires.1;
-    packs = c.climbs_of-field.ensures;
-    local-in = inside _ _ _ c.climbs_of-field.ensures _ c.out.ensures c.if-out-eq0.false;
-  },
-  c.requires.2,
-  c.requires.3,
-)
+in_group-requires c =
+    record {
+      group-in = c.requires;
+      packs = c.climbs_of-field.ensures;
+      local-in = inside _ _ _ c.climbs_of-field.ensures _ c.out.ensures c.if-out-eq0.false;
+    }
 
 pub returns : goal.returns
 unfolding after_shape
 returns c =
-    let args = c.args in
-    let in-shape = inside args.shape args.local _ c.climbs_of-field.ensures _ c.out.ensures c.if-out-eq0.false in
-    let j = there args.shape args.local in-shape in
-    c.in_group.ensures ∙ ap answer_words (le-no _ _ _ _ _ _ _ (known-shape args.shape args.local 0 in-shape) (search (steps, j.1)))
+    let shape = c.args.shape in
+    let local = c.args.member.local in
+    let in-shape = inside shape local _ c.climbs_of-field.ensures _ c.out.ensures c.if-out-eq0.false in
+    let j = there shape local in-shape in
+    written _ _ _ c.in_group.ensures (le-no _ _ _ _ _ _ _ (known-shape shape local 0 in-shape) (search (steps, j.1)))

@@ -1,6 +1,7 @@
 -- `joining::with_four` meets its contract. Assumes nothing.
+use Rattle.query.proofs.Programs.{listing}
 use Rattle.query.proofs.joining.Joins.{four-behind}
 use Rattle.query.proofs.joining.with_four.Goals as goal
 
 pub returns : goal.returns
-returns c = let p = c.requires in four-behind c.args.cells c.args.more c.args.i p.0 p.2.held p.1 p.2.four
+returns g c = let p = c.requires in four-behind _ _ _ (listing _ _ c.args.cells.held) (listing _ _ p.1.held) p.0 p.1.four

@@ -3,9 +3,9 @@ use Rattle.answers.specs.Steps.{after_ancestor}
 use Rattle.query.proofs.Programs.{steps}
 use Rattle.query.proofs.jump.after_ancestor.Goals as goal
 
-pub returns-then-n-w : goal.returns-then-n-w
+pub returns-then-table-w : goal.returns-then-table-w
 unfolding after_ancestor
-returns-then-n-w c = search steps
+returns-then-table-w c = search steps
 
 pub returns : goal.returns
 unfolding after_ancestor

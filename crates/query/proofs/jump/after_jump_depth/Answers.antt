@@ -1,7 +1,8 @@
 -- `jump::after_jump_depth` meets its contract. Assumes nothing.
-use Rattle.std.proofs.Common.{◌≡◌, ℕ, ◌<◌, ◌≤◌, List, arith, lit≤, rules}
+use Rattle.std.proofs.Common.{◌≡◌, ℕ, ◌<◌, ◌≤◌, List, arith, lit≤}
 use native.Mathlib.Decide.{dec_le, dec_lt}
-use Rattle.base.proofs.Exponents.{exponent-low, exponent-none, exponent-told}
+use Rattle.base.proofs.Exponents.{exponent-low, exponent-none}
+use Rattle.base.proofs.Options.{option-told}
 use Rattle.answers.specs.Answers.{answer_from}
 use Rattle.answers.specs.Steps.{broken, after_jump_depth}
 use Rattle.answers.specs.declared.Answer.{Answer}
@@ -21,25 +22,25 @@ not-deeper r t cs n d jump depth h e = go (dec_le n depth) (dec_lt depth d)
 
 pub read_ancestor-requires : goal.read_ancestor-requires
 read_ancestor-requires c =
-    let low = exponent-low 20 _ _ (lit≤ tt) (omega arith) (exponent-told _ c.exponent.ensures.answer c.in-Exponent.is) in
-    (search rules, search rules, low.0, low.1)
+    let low = exponent-low 20 _ _ (lit≤ tt) (omega arith) (option-told c.exponent.ensures.answer c.in-Some.is) in
+    (c.requires, low.0, low.1)
 
 pub returns-in-None : goal.returns-in-None
 unfolding after_jump_depth
 returns-in-None c =
-    let q = exponent-told _ c.exponent.ensures.answer c.in-None.is in
+    let q = option-told c.exponent.ensures.answer c.in-None.is in
     le-no _ _ _ _ _ _ _ (omega arith) (lt_no _ _ _ _ _ _ _ (omega arith) (search steps))
 
-pub returns-in-Exponent : goal.returns-in-Exponent
+pub returns-in-Some : goal.returns-in-Some
 unfolding after_jump_depth
-returns-in-Exponent c =
-    let q = exponent-told _ c.exponent.ensures.answer c.in-Exponent.is in
+returns-in-Some c =
+    let q = option-told c.exponent.ensures.answer c.in-Some.is in
     le-no _ _ _ _ _ _ _ (omega arith) (lt_no _ _ _ _ _ _ _ (omega arith) (search steps))
 
 pub returns-then-depth-d : goal.returns-then-depth-d
 unfolding after_jump_depth
 returns-then-depth-d c = not-deeper _ _ _ _ _ _ _ c.if-depth-d.true (search steps)
 
-pub returns-then-n-d : goal.returns-then-n-d
+pub returns-then-asked-d : goal.returns-then-asked-d
 unfolding after_jump_depth
-returns-then-n-d c = le_yes _ _ _ _ _ _ _ (omega arith) (search steps)
+returns-then-asked-d c = le_yes _ _ _ _ _ _ _ (omega arith) (search steps)

@@ -7,10 +7,10 @@ pub returns-then-index-missing : goal.returns-then-index-missing
 unfolding after_ladpos
 returns-then-index-missing c = search steps
 
-pub returns-then-n-at : goal.returns-then-n-at
+pub returns-then-table-at : goal.returns-then-table-at
 unfolding after_ladpos
-returns-then-n-at c = search steps
+returns-then-table-at c = search steps
 
 pub returns : goal.returns
 unfolding after_ladpos
-returns c = search (steps, c.after_class.ensures)
+returns c = search steps

@@ -10,4 +10,4 @@ power e h = shl_exact 1 e 32 (lit< tt) (omega arith) ∙ one-mul _
 
 pub returns : goal.returns
 unfolding read_ancestor
-returns c = rw (← (power c.args.e c.requires.2)) (search steps)
+returns c = rw (← (power c.args.e c.requires.1)) (search steps)

@@ -1,22 +1,20 @@
 -- `relate::at_or_above` meets its contract. Assumes nothing.
-use Rattle.std.proofs.Common.{sym, ◌∙◌}
-use borrow.Author.Tests.{not-true, not-false}
+use Rattle.std.proofs.Common.{◌≡◌, Bool, true, false, refl, ◌∙◌}
 use Rattle.answers.specs.Answers.{answer_from}
 use Rattle.answers.specs.Steps.{ancestry}
-use Rattle.query.proofs.relate.Relations.{relation-refused, relation-apart, relation-above}
+use Rattle.answers.specs.declared.Cells.{Cells}
+use Rattle.query.specs.Parts.{pick_answer}
 use Rattle.query.proofs.relate.at_or_above.Goals as goal
+use mir.Val.{bool_byte}
 
-pub returns-then-relation-ne-ACCEPTED : goal.returns-then-relation-ne-ACCEPTED
-unfolding ancestry answer_from
-returns-then-relation-ne-ACCEPTED c =
-    let r = c.relate-relation in sym (relation-refused _ r.result _ _ c.if-relation-ne-ACCEPTED.true) ∙ r.ensures.goes _ _
+told : (b : Bool) (cs : Cells) → record { number = 0; word = bool_byte b; cells = cs } ≡ pick_answer b (record { number = 0; word = 1; cells = cs }) (record { number = 0; word = 0; cells = cs })
+told true cs = refl
+told false cs = refl
 
-pub returns-then-not-relation : goal.returns-then-not-relation
+pub returns-in-Ok : goal.returns-in-Ok
 unfolding ancestry answer_from
-returns-then-not-relation c =
-    let r = c.relate-relation in sym (relation-apart _ r.result _ _ c.if-relation-ne-ACCEPTED.false (not-true _ c.if-not-relation.true)) ∙ r.ensures.goes _ _
+returns-in-Ok c = rw (c.new.ensures, c.from.ensures) (told c.in-Ok.relation.above c.in-Ok.relation.cells.cells) ∙ c.in-Ok.ensures.goes _ _
 
-pub returns : goal.returns
+pub returns-in-Err : goal.returns-in-Err
 unfolding ancestry answer_from
-returns c =
-    let r = c.relate-relation in sym (relation-above _ r.result _ _ c.if-relation-ne-ACCEPTED.false (not-false _ c.if-not-relation.false)) ∙ r.ensures.goes _ _
+returns-in-Err c = c.in-Err.ensures.goes _ _
