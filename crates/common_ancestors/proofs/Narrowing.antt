@@ -1,8 +1,9 @@
 -- The search narrows down to the first entry of a's climb that is on b's. Assumes nothing.
-use mathlib.Core.Path.{◌≡◌, refl, sym, ap, ◌∙◌}
+use mathlib.Core.Path.{◌≡◌, sym, ap, ◌∙◌}
 use mathlib.Core.List.{List}
 use mathlib.Core.Bool.{true, false}
 use mathlib.Core.Option.{some}
+use Rattle.std.specs.Prelude.{Some, None}
 use Prim.Native.Nat.{ℕ, zero, suc, ◌+◌, ◌-◌, ◌≤◌, ◌<◌}
 use native.Mathlib.Omega.{arith}
 use lib.ListN.{length, get_or}
@@ -17,15 +18,15 @@ use Rattle.tree.proofs.Positions.{at_position}
 use Rattle.answers.specs.Reading.{word_at}
 use Rattle.climbs.proofs.TableWords.{small, tree, depth-word, order-word}
 use Rattle.common_ancestors.specs.Common.{Nearest}
-use Rattle.common_ancestors.specs.Parts.{Table, Given, Tried, Reaches, ClassAndClimbs}
-use Rattle.common_ancestors.specs.declared.search.Found.{Found}
+use Rattle.common_ancestors.specs.Parts.{Of, Given, Tried, Reached, Between}
+use Rattle.common_ancestors.specs.declared.search.Shared.{Shared}
 use Rattle.common_ancestors.specs.declared.trial.Trial.{Trial}
 use Rattle.common_ancestors.proofs.Climbs.{meets-nearest}
 use Rattle.common_ancestors.proofs.Theorems.{nearest-above, nearest-turned}
 
 -- what two entries share, and the climbs between them, are the same in either order
-pub nears-turned : (ps : List ℕ) (a b : ℕ) (r : Found) → ClassAndClimbs ps a b r → ClassAndClimbs ps b a r
-nears-turned ps a b r m = record { found = m.found; nearest = nearest-turned ps a b r.word m.nearest; climbs = omega (arith, m.climbs) }
+pub nears-turned : (ps : List ℕ) (a b : ℕ) (r : Shared) → Between ps a b r → Between ps b a r
+nears-turned ps a b r m = record { nearest = nearest-turned ps a b r.class.0 m.nearest; climbs = omega (arith, m.climbs) }
 
 -- fewer than `low` climbs from a lead to no entry on b's climb, and `high` climbs to `word`, which is one
 pub record Narrowed (ps : List ℕ) (a b low high word : ℕ) : Type 0 where
@@ -33,7 +34,7 @@ pub record Narrowed (ps : List ℕ) (a b low high word : ℕ) : Type 0 where
   pub hit : (up ps high a ≡ some word) × Ancestor ps word b
 
 -- DEPTH has the depth
-pub given : (ps t : List ℕ) (n a b da : ℕ) → Table ps t n → a < n → b < n → da ≡ word_at t (depth_cell n a) → Given ps t n a b da
+pub given : (ps t : List ℕ) (n a b da : ℕ) → Of ps t n → a < n → b < n → da ≡ word_at t (depth_cell n a) → Given ps t n a b da
 given ps t n a b da of ha hb e = record { of = of; deep = e ∙ depth-word ps t of.prepared a (omega (arith, of.count)); first = ha; second = hb }
 
 module _ (ps t : List ℕ) (n a b da : ℕ) (g : Given ps t n a b da) where
@@ -41,18 +42,17 @@ module _ (ps t : List ℕ) (n a b da : ℕ) (g : Given ps t n a b da) where
   given-shallow = omega (arith, g.deep, g.of.count, depth-less ps (small ps t g.of.prepared) (tree ps t g.of.prepared) a (omega (arith, g.first, g.of.count)))
 
   -- a, where it is at or above b
-  pub own-reached : (tries : ℕ) → Ancestor ps a b → Reaches ps a b (record { number = 0; word = a; climbs = 0; tries = tries })
+  pub own-reached : Ancestor ps a b → Reached ps a b (record { class = record { 0 = a }; climbs = 0 })
   unfolding up
-  own-reached tries h = record { found = refl; reached = entry_in ps a (omega (arith, g.first, g.of.count)); nearest = nearest-above ps (small ps t g.of.prepared) (tree ps t g.of.prepared) a b h }
+  own-reached h = record { reached = entry_in ps a (omega (arith, g.first, g.of.count)); nearest = nearest-above ps (small ps t g.of.prepared) (tree ps t g.of.prepared) a b h }
 
   -- the climbs from b too, which is so much deeper
-  pub reached-both : (db : ℕ) (r : Found) → db ≡ depth ps b → da ≤ db → Reaches ps a b r
-      → ClassAndClimbs ps a b (record { number = 0; word = r.word; climbs = r.climbs + r.climbs + (db - da); tries = r.tries })
+  pub reached-both : (db : ℕ) (r : Shared) → db ≡ depth ps b → da ≤ db → Reached ps a b r → Between ps a b (record { class = r.class; climbs = r.climbs + r.climbs + (db - da) })
   reached-both db r e h m =
       let k = small ps t g.of.prepared in
       let c = tree ps t g.of.prepared in
       let o = m.nearest.above-second in
-      record { found = refl; nearest = m.nearest; climbs = omega (arith, e, g.deep, up_depth ps k c r.climbs a r.word m.reached, up_depth ps k c o.climbs b r.word o.reached) }
+      record { nearest = m.nearest; climbs = omega (arith, e, g.deep, up_depth ps k c r.climbs a r.class.0 m.reached, up_depth ps k c o.climbs b r.class.0 o.reached) }
 
   -- the top is on both climbs, da climbs from a
   top_reached : (up ps da a ≡ some (tree ps t g.of.prepared).root) × Ancestor ps (tree ps t g.of.prepared).root b
@@ -93,12 +93,13 @@ module _ (ps t : List ℕ) (n a b da : ℕ) (g : Given ps t n a b da) where
   climbed : (k : ℕ) → k ≤ da → (x : ℕ) × (up ps k a ≡ some x)
   climbed k h = up-some ps (small ps t g.of.prepared) (tree ps t g.of.prepared) k a (omega (arith, g.first, g.of.count)) (omega (arith, g.deep))
 
-  module _ (low high word k : ℕ) (s : Narrowed ps a b low high word) (h : k ≤ da) (r : Trial) (right : (x : ℕ) → up ps k a ≡ some x → Tried ps x b r) where
-    pub tried-known : r.number ≡ 0
-    tried-known = let (x, e) = climbed k h in (right x e).found
+  -- a try tells
+  pub tried-known : (k : ℕ) → k ≤ da → ((x : ℕ) → up ps k a ≡ some x → Tried ps x b None) → ⊥
+  tried-known k h right = let (x, e) = climbed k h in right x e
 
-    pub narrowed-hit : r.above ≡ true → Narrowed ps a b low k r.word
-    narrowed-hit y = let (x, e) = climbed k h in let m = right x e in record { below = s.below; hit = rw m.entry (e, m.tells.yes y) }
+  module _ (low high word k : ℕ) (s : Narrowed ps a b low high word) (h : k ≤ da) (r : Trial) (right : (x : ℕ) → up ps k a ≡ some x → Tried ps x b (Some r)) where
+    pub narrowed-hit : r.above ≡ true → Narrowed ps a b low k r.entry.0
+    narrowed-hit y = let (x, e) = climbed k h in let (entry, tells) = right x e in record { below = s.below; hit = rw entry (e, tells.yes y) }
 
     pub narrowed-miss : r.above ≡ false → Narrowed ps a b (k + 1) high word
     narrowed-miss n = record { below = go (climbed k h); hit = s.hit }
@@ -107,7 +108,7 @@ module _ (ps t : List ℕ) (n a b da : ℕ) (g : Given ps t n a b da) where
         go : (x : ℕ) × (up ps k a ≡ some x) → (j y : ℕ) → j < k + 1 → up ps j a ≡ some y → Ancestor ps y b → ⊥
         go (x, e) j y i f c =
             let z : k ≡ j + (k - j) = omega arith in
-            (right x e).tells.no n (ancestor-trans ps (small ps t g.of.prepared) (tree ps t g.of.prepared) x y b (record { climbs = k - j; reached = sym (up-add ps j (k - j) a y f) ∙ ap (λ m. up ps m a) (sym z) ∙ e }) c)
+            (right x e).1.no n (ancestor-trans ps (small ps t g.of.prepared) (tree ps t g.of.prepared) x y b (record { climbs = k - j; reached = sym (up-add ps j (k - j) a y f) ∙ ap (λ m. up ps m a) (sym z) ∙ e }) c)
 
   pub narrowed-end : (low high word : ℕ) → Narrowed ps a b low high word → high ≤ low → Nearest ps a b word
   narrowed-end low high word s e = let (r, o) = s.hit in meets-nearest ps (small ps t g.of.prepared) (tree ps t g.of.prepared) a b word high (record { reached = r; on = o; before = λ j x i. s.below j x (omega arith) })

@@ -11,7 +11,10 @@ use lib.ListN.{length}
 use lib.Dec.{eqb}
 use borrow.Author.Tests.{eq-eqb, ne_eqb, le-leb, lt-leb}
 use Rattle.base.specs.Lists.{some?}
-use Rattle.base.specs.Numbers.{Outcome, accepted, unknown, broken, Says}
+use Rattle.base.specs.Numbers.{Outcome, accepted, unknown, broken}
+use Rattle.base.specs.Refusals.{refused}
+use Rattle.base.specs.declared.refusals.Refusal.{Refusal}
+use Rattle.base.specs.declared.refusals.Refusal.TheVariants.{Count, ShortTable, ShortSpace, Stray, Tops, Loop, Unknown, TooDeep, Broken, NotAbove, BadRate, BadSum, BadLine, Gap, Overlap}
 use Rattle.table.specs.Preparing.{Prepared}
 use Rattle.climbs.proofs.TableWords.{small, tree}
 use Rattle.query.specs.StepOne.{step_one}
@@ -19,10 +22,10 @@ use Rattle.query.proofs.StepOne.{step-prepared, step-numbers}
 use Rattle.common_ancestors.specs.Common.{nearest_common_ancestor, distance, both_known, of_both}
 use Rattle.common_ancestors.specs.Admission.{admission}
 use Rattle.common_ancestors.specs.Promises.{numbers, OnAnyTable, Gives}
-use Rattle.common_ancestors.specs.Parts.{bound, chosen, meaning, Answered, Table, ClassAndClimbs}
+use Rattle.common_ancestors.specs.Parts.{bound, chosen, meaning, Answered, Of, Between}
 use Rattle.common_ancestors.specs.declared.Sought.{Sought}
 use Rattle.common_ancestors.specs.declared.Sought.TheVariants.{Class, Climbs}
-use Rattle.common_ancestors.specs.declared.search.Found.{Found}
+use Rattle.common_ancestors.specs.declared.search.Shared.{Shared}
 use Rattle.common_ancestors.proofs.Theorems.{nearest-iff, distance-depths}
 
 -- the two entries of n, one by one
@@ -54,18 +57,33 @@ module _ (n u v : ℕ) (o : Outcome) where
           inl (ap (λ x. x.number) (second-unknown n u v o c b), λ other. second-unknown n u v o c b ∙ sym (second-unknown n u v other c b))
       go (no a) (no b) = let c : u < n = omega arith in let d : v < n = omega arith in inr (c, d, both-known n u v o c d)
 
+-- no refusal has the number 0
+pub refusal-number : (e : Refusal) → (refused e).number ≡ 0 → ⊥
+refusal-number Count z = omega arith
+refusal-number ShortTable z = omega arith
+refusal-number ShortSpace z = omega arith
+refusal-number (Stray v) z = omega arith
+refusal-number (Tops v) z = omega arith
+refusal-number (Loop v) z = omega arith
+refusal-number (Unknown v) z = omega arith
+refusal-number (TooDeep v) z = omega arith
+refusal-number Broken z = omega arith
+refusal-number (NotAbove v) z = omega arith
+refusal-number BadRate z = omega arith
+refusal-number BadSum z = omega arith
+refusal-number (BadLine v) z = omega arith
+refusal-number (Gap v a) z = omega arith
+refusal-number (Overlap v a) z = omega arith
+
 -- from step 1 to the refusal
-module _ (t : List ℕ) (u v number word : ℕ) (says : Says (step_one t) number word) where
-  step : step_one t ≡ record { number = number; word = word }
-  step i = record { number = sym says.0 i; word = sym says.1 i }
-
-  pub admission-broken : (number ≡ 0 → ⊥) → record { number = number; word = word } ≡ admission t u v
+module _ (t : List ℕ) (u v : ℕ) (o : Outcome) (step : o ≡ step_one t) where
+  pub admission-broken : (o.number ≡ 0 → ⊥) → o ≡ admission t u v
   unfolding admission
-  admission-broken n = sym (rw (step, ne_eqb number 0 n))
+  admission-broken n = step ∙ sym (rw (ne_eqb (step_one t).number 0 (rw step at n)))
 
-  pub admission-known : number ≡ 0 → both_known word u v (record { number = number; word = word }) ≡ admission t u v
+  pub admission-known : o.number ≡ 0 → both_known o.word u v o ≡ admission t u v
   unfolding admission
-  admission-known z = sym (rw (step, eq-eqb number 0 z))
+  admission-known z = rw step (sym (rw (eq-eqb (step_one t).number 0 (rw step at z))))
 
 -- o is what turns the question away, or 0 with the number of entries
 module _ (t : List ℕ) (u v : ℕ) (o : Outcome) (e : o ≡ admission t u v) where
@@ -97,10 +115,10 @@ module _ (t : List ℕ) (u v : ℕ) (o : Outcome) (e : o ≡ admission t u v) wh
     passed-enters most r s = record { refused = λ m. absurd (m (sym (ap (λ x. x.number) e) ∙ z)); settled = λ q. rw (ap (λ x. x.word) e) at s }
 
     -- the number of entries is the list's, and both are entries of it
-    pub table_of : (ps : List ℕ) → Prepared ps t → Table ps t o.word × (u < length ps) × (v < length ps)
+    pub table_of : (ps : List ℕ) → Prepared ps t → Of ps t o.word × (u < length ps) × (v < length ps)
     table_of ps p = go (both-cases (length ps) u v (accepted (length ps)))
       where
-        go : Cases (length ps) u v (accepted (length ps)) → Table ps t o.word × (u < length ps) × (v < length ps)
+        go : Cases (length ps) u v (accepted (length ps)) → Of ps t o.word × (u < length ps) × (v < length ps)
         go (inl (q, same)) = absurd (omega (arith, z, ap (λ x. x.number) (prepared ps p), q))
         go (inr (a, b, q)) = (record { prepared = p; count = ap (λ x. x.word) (prepared ps p ∙ q) }, a, b)
 
@@ -154,6 +172,6 @@ pub chosen-bound : (s : Sought) (n class climbs : ℕ) → class < n → climbs 
 chosen-bound Class n class climbs a b = a
 chosen-bound Climbs n class climbs a b = b
 
-pub chosen-answered : (s : Sought) (ps : List ℕ) (u v : ℕ) (r : Found) → ClassAndClimbs ps u v r → Answered s ps u v (accepted (chosen s r.word r.climbs))
+pub chosen-answered : (s : Sought) (ps : List ℕ) (u v : ℕ) (r : Shared) → Between ps u v r → Answered s ps u v (accepted (chosen s r.class.0 r.climbs))
 chosen-answered Class ps u v r m = record { found = refl; nearest = m.nearest }
-chosen-answered Climbs ps u v r m = record { found = refl; class = r.word; nearest = m.nearest; climbs = m.climbs }
+chosen-answered Climbs ps u v r m = record { found = refl; class = r.class.0; nearest = m.nearest; climbs = m.climbs }

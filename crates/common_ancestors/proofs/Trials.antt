@@ -21,9 +21,9 @@ use Rattle.answers.specs.Steps.{climbing}
 use Rattle.climbs.proofs.TableWords.{small, tree}
 use Rattle.climbs.proofs.Questions.{climb-right}
 use Rattle.query.proofs.Ratings.{first_two, outcome-words}
-use Rattle.common_ancestors.specs.Parts.{Table, Tells}
+use Rattle.common_ancestors.specs.Parts.{Of, Tells}
 
-module _ (ps t : List ℕ) (n : ℕ) (of : Table ps t n) where
+module _ (ps t : List ℕ) (n : ℕ) (of : Of ps t n) where
   -- ancestry's word is 1 just where the first is at or above the second
   module _ (w b : ℕ) (o : Outcome) (hw : w < n) (hb : b < n) (e : o ≡ ancestry_of ps w b) where
     answered : o ≡ accepted (cond (has (climb ps b) w) 1 0)

@@ -2,16 +2,11 @@
 use Rattle.std.specs.Prelude.{◌≡◌, ◌⊎◌, true, List, [], ◌∷◌, ℕ, ◌+◌, ◌-◌, ◌*◌, ◌<◌, length}
 use Rattle.base.specs.Lists.{has}
 use Rattle.base.specs.Numbers.{Outcome, broken}
-use Rattle.base.specs.declared.Reply.{Reply}
 use Rattle.tree.specs.Parents.{depth}
 use Rattle.table.specs.Preparing.{Prepared}
 use Rattle.answers.specs.Answers.{listed, answer_words}
 use Rattle.common_ancestors.specs.Common.{Nearest}
 use Rattle.common_ancestors.specs.Admission.{admission}
-
--- a reply as number and word
-abbrev pub said : Reply → Outcome
-said r = record { number = r.number; word = r.word }
 
 -- what a result is less than, of n entries: a class is an entry, and climbs are fewer than twice the entries
 abbrev pub class_bound : ℕ → ℕ

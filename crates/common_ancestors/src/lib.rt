@@ -4,9 +4,9 @@
 mod search;
 mod trial;
 
-ghost use Rattle.std.specs.Prelude.{◌≡◌, ◌<◌, OnOk};
-ghost use Rattle.base.specs.Limits.{Sized};
+ghost use Rattle.std.specs.Prelude.{◌≡◌, ◌<◌, IfOk};
 ghost use Rattle.base.specs.Refusals.{outcome_of};
+ghost use Rattle.query.specs.StepOne.{opened_as};
 ghost use Rattle.common_ancestors.specs.Common.{nearest_of, distance_of};
 ghost use Rattle.common_ancestors.specs.Admission.{admission};
 ghost use Rattle.common_ancestors.specs.Promises.{class_bound, climb_bound, numbers, OnAnyTable, Gives, Right, Known, Shares, Counts, Words};
@@ -15,7 +15,7 @@ ghost use Rattle.common_ancestors.specs.Parts.{bound, meaning, Answered, chosen}
 use crate::search::{Shared, nearest};
 use answers::{ANSWER_WORDS, Answer, Cells};
 use base::{Node, Refusal};
-use query::entries;
+use query::{Table, opened};
 
 // What is asked of two entries: the class that they share, or the climbs between them.
 #[derive(Clone, Copy)]
@@ -64,9 +64,11 @@ fn answer(table: &[u32], sought: Sought, u: Node, v: Node) -> Result<u32, Refusa
     ensures right { Right (λ ps. meaning sought ps u.0 v.0) table.now (outcome_of result) }
     ensures known { Known (Answered sought) u.0 v.0 table.now (outcome_of result) }
 {
-    let n = admitted(table, u, v)?;
-    let found = nearest(table, n, u, v);
-    let shared = found.shared.ok_or(Refusal::Broken)?;
+    let open = admitted(table, u, v)?;
+    let found = nearest(open, u, v);
+    let Some(shared) = found.shared else {
+        return Err(Refusal::Broken);
+    };
     Ok(chosen(sought, shared))
 }
 
@@ -79,17 +81,17 @@ fn chosen(sought: Sought, shared: Shared) -> u32
     }
 }
 
-// Step 1, then the two entries: the number of entries, or the refusal.
-fn admitted(table: &[u32], u: Node, v: Node) -> Result<u32, Refusal>
-    ensures answer { outcome_of result ≡ admission table.now u.0 v.0 }
-    ensures sized { OnOk result (λ n. (Sized table.now n) × (u.0 < n) × (v.0 < n)) }
+// Step 1, then the two entries: the table, or the refusal.
+fn admitted(table: &[u32], u: Node, v: Node) -> Result<Table, Refusal>
+    ensures answer { opened_as result ≡ admission table.now u.0 v.0 }
+    ensures known { IfOk result (λ r. (r.words.now ≡ table.now) × (u.0 < r.n) × (v.0 < r.n)) }
 {
-    let n = entries(table)?;
-    if n <= u.0 {
+    let open = opened(table)?;
+    if open.n <= u.0 {
         return Err(Refusal::Unknown(u));
     }
-    if n <= v.0 {
+    if open.n <= v.0 {
         return Err(Refusal::Unknown(v));
     }
-    Ok(n)
+    Ok(open)
 }

@@ -1,13 +1,14 @@
 // The search for the first entry on both climbs: from the entry that is less deep, by strides that grow, then by halves.
-ghost use Rattle.std.specs.Prelude.{◌≡◌, List, ℕ, ◌+◌, ◌*◌, ◌<◌, ◌≤◌};
-ghost use Rattle.base.specs.Limits.{Sized, most_entries};
+ghost use Rattle.std.specs.Prelude.{◌≡◌, List, ℕ, ◌+◌, ◌*◌, ◌<◌, ◌≤◌, IfSome};
+ghost use Rattle.base.specs.Limits.{most_entries};
 ghost use Rattle.tree.specs.Level.{Ancestor};
 ghost use Rattle.common_ancestors.specs.Promises.{climb_bound};
-ghost use Rattle.common_ancestors.specs.Parts.{first_tries, most_tries, Table, Given, Settled, Reaches, ClassAndClimbs, Ordered};
+ghost use Rattle.common_ancestors.specs.Parts.{first_tries, most_tries, Of, Given, Settled, Reaches, ClassAndClimbs, Ordered};
 
 use crate::trial::{depth_of, is_above, top_of, tried};
 use base::Node;
 use base::limits::MOST_ENTRIES;
+use query::Table;
 
 // An entry on both climbs, and the climbs to it: from the less deep entry or, of `nearest`, from both.
 #[derive(Clone, Copy)]
@@ -33,25 +34,28 @@ pub struct Ends {
 }
 
 // The first entry on both climbs, and the climbs to it from both.
-pub(crate) fn nearest(table: &[u32], n: u32, u: Node, v: Node) -> Found
-    requires { (Sized table.now n) × (u.0 < n) × (v.0 < n) }
+pub(crate) fn nearest(table: Table, u: Node, v: Node) -> Found
+    requires { (u.0 < table.n) × (v.0 < table.n) }
     ensures few { result.tries ≤ most_tries }
-    ensures settled { OnSome result.shared (λ r. (r.class.0 < n) × (r.climbs < climb_bound n)) }
-    ensures right { (ps : List ℕ) → Table ps table.now n → ClassAndClimbs ps u.0 v.0 result.shared }
+    ensures settled { IfSome result.shared (λ r. (r.class.0 < table.entry.n) × (r.climbs < climb_bound table.entry.n)) }
+    ensures right { (ps : List ℕ) → Of ps table.entry.words.now table.entry.n → ClassAndClimbs ps u.0 v.0 result.shared }
 {
-    let du = depth_of(table, n, u);
-    let dv = depth_of(table, n, v);
-    if n <= du || n <= dv {
+    let du = depth_of(table, u);
+    let dv = depth_of(table, v);
+    if table.n <= du || table.n <= dv {
         return broken_after(0);
     }
     let ends = by_depth(u, v, du, dv);
-    let found = first_above(table, n, ends.first, ends.second, ends.depth);
-    let shared = found.shared.map(|near| Shared {
+    let found = first_above(table, ends);
+    let Some(near) = found.shared else {
+        return broken_after(found.tries);
+    };
+    let shared = Shared {
         class: near.class,
         climbs: near.climbs + near.climbs + ends.below,
-    });
+    };
     Found {
-        shared,
+        shared: Some(shared),
         tries: found.tries,
     }
 }
@@ -76,42 +80,42 @@ fn by_depth(u: Node, v: Node, du: u32, dv: u32) -> Ends
     }
 }
 
-// The first entry of a's climb that is on b's, where a is `da` deep, and the climbs to it from a.
-fn first_above(table: &[u32], n: u32, a: Node, b: Node, da: u32) -> Found
-    requires { (Sized table.now n) × (a.0 < n) × (da < n) }
+// The first entry of the first's climb that is on the second's, and the climbs to it from the first.
+fn first_above(table: Table, ends: Ends) -> Found
+    requires { (ends.first.0 < table.n) × (ends.depth < table.n) }
     ensures few { result.tries ≤ most_tries }
-    ensures settled { Settled n da result }
-    ensures right { (ps : List ℕ) → Given ps table.now n a.0 b.0 da → Reaches ps a.0 b.0 result }
+    ensures settled { Settled table.entry.n ends.depth result.shared }
+    ensures right { (ps : List ℕ) → Given ps table.entry.words.now table.entry.n ends.first.0 ends.second.0 ends.depth → Reaches ps ends.first.0 ends.second.0 result.shared }
 {
-    if is_above(table, a, b) {
+    if is_above(table, ends.first, ends.second) {
         return Found {
             shared: Some(Shared {
-                class: a,
+                class: ends.first,
                 climbs: 0,
             }),
             tries: 0,
         };
     }
-    search(table, n, a, b, da)
+    search(table, ends)
 }
 
-// The same, where a is not at or above b. Fewer than `low` climbs from a lead to no entry of b's climb, and `high` climbs lead to `word`, which is one: at first the top.
-fn search(table: &[u32], n: u32, a: Node, b: Node, da: u32) -> Found
-    requires { (Sized table.now n) × (da < n) }
+// The same, where the first is not at or above the second. Fewer than `low` climbs lead to no entry of the second's climb, and `high` climbs lead to `class`, which is one: at first the top.
+fn search(table: Table, ends: Ends) -> Found
+    requires { ends.depth < table.n }
     ensures few { result.tries ≤ most_tries }
-    ensures settled { Settled n da result }
-    ensures right { (ps : List ℕ) → Given ps table.now n a.0 b.0 da → (Ancestor ps a.0 b.0 → ⊥) → Reaches ps a.0 b.0 result }
+    ensures settled { Settled table.entry.n ends.depth result.shared }
+    ensures right { (ps : List ℕ) → Given ps table.entry.words.now table.entry.n ends.first.0 ends.second.0 ends.depth → (Ancestor ps ends.first.0 ends.second.0 → ⊥) → Reaches ps ends.first.0 ends.second.0 result.shared }
 {
-    let mut class = top_of(table, n);
-    if n <= class.0 || da == 0 {
+    let mut class = top_of(table);
+    if table.n <= class.0 || ends.depth == 0 {
         return broken_after(0);
     }
     let mut low: u32 = 1;
-    let mut high = da;
+    let mut high = ends.depth;
     let mut k: u32 = 1;
     let mut tries: u32 = 0;
     while low < high {
-        let trial = tried(table, n, a, b, k);
+        let trial = tried(table, ends.first, ends.second, k);
         tries += 1;
         let Some(trial) = trial else {
             return broken_after(tries);

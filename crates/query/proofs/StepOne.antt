@@ -1,5 +1,5 @@
 -- Step 1 by itself: from its count, on a prepared table, and what it rests on. Assumes nothing.
-use Rattle.std.proofs.Common.{◌≡◌, ℕ, Bool, true, false, cond, eqb, ltb, List, [], ◌∷◌, length, Some, None, sym, refl, ap, ◌∙◌}
+use Rattle.std.proofs.Common.{◌≡◌, ℕ, Bool, true, false, cond, eqb, ltb, List, [], ◌∷◌, length, Option, Some, None, IfOk, sym, refl, ap, ◌∙◌}
 use Rattle.base.specs.Limits.{most_entries, entries_of, table_words}
 use Rattle.base.specs.Lists.{has, some?}
 use Rattle.base.specs.Numbers.{accepted, broken}
@@ -12,7 +12,9 @@ use Rattle.answers.proofs.ProgramAnswers.{from_is}
 use Rattle.answers.proofs.Runs.{run-done}
 use Rattle.answers.proofs.Numbers.{Ends, ends-run, numbers}
 use Rattle.climbs.proofs.Questions.{opened-run}
-use Rattle.query.specs.StepOne.{step_one}
+use Rattle.std.specs.Option.{ok_or}
+use Rattle.base.specs.declared.refusals.Refusal.TheVariants as Refusal
+use Rattle.query.specs.StepOne.{step_one, opened_as}
 use Rattle.query.specs.Parts.{Opened}
 use Rattle.query.specs.declared.reading.Table.{Table}
 
@@ -28,6 +30,14 @@ module _ (t : List ℕ) where
   pub step-accepted : (r : Table) → Opened t (Some r) → accepted r.n ≡ step_one t
   unfolding answer_from
   step-accepted r by = ap outcome (by.1 (λ n. done (accepted n))) ∙ counted
+
+  pub step-told : (o : Option Table) → Opened t o → opened_as (ok_or o Refusal.Broken) ≡ step_one t
+  step-told None by = step-broken by
+  step-told (Some r) by = step-accepted r by
+
+  pub step-same : (o : Option Table) → Opened t o → IfOk (ok_or o Refusal.Broken) (λ r. r.words.now ≡ t)
+  step-same None by = tt
+  step-same (Some r) by = by.0
 
 -- on a prepared table it gives the number of entries
 pub step-prepared : (ps t : List ℕ) → Prepared ps t → step_one t ≡ accepted (length ps)

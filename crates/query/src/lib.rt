@@ -18,11 +18,12 @@ ghost use Rattle.answers.specs.Answers.{answer_words};
 ghost use Rattle.tree.specs.Questions.{class_of, rating_of, climb_of, ancestry_of, branch_of};
 ghost use Rattle.answers.specs.Promises.{Answers, Gives, Few, Local, Right, RatesKnown, Smaller};
 ghost use Rattle.answers.specs.Steps.{level, climbing, rating, ancestry, branch};
-ghost use Rattle.query.specs.StepOne.{step_one};
+ghost use Rattle.query.specs.StepOne.{step_one, opened_as};
 
 use answers::{ANSWER_WORDS, Answer};
 use base::{Node, Refusal};
 pub use look::{climb_words, level_words, rating_words};
+pub use reading::Table;
 
 // The level lookup: the class of v at depth d.
 pub fn level(table: &[u32], v: Node, d: u32) -> Answer
@@ -86,10 +87,16 @@ pub fn entries(table: &[u32]) -> Result<u32, Refusal>
     ensures answer { outcome_of result ≡ step_one table.now }
     ensures sized { IfOk result (λ n. Sized table.now n) }
 {
-    match look::opened(table) {
-        Some(open) => Ok(open.n),
-        None => Err(Refusal::Broken),
-    }
+    let open = opened(table)?;
+    Ok(open.n)
+}
+
+// Step 1, and the table that the words are for who reads on.
+pub fn opened(words: &[u32]) -> Result<Table, Refusal>
+    ensures answer { opened_as result ≡ step_one words.now }
+    ensures same { IfOk result (λ r. r.words.now ≡ words.now) }
+{
+    look::opened(words).ok_or(Refusal::Broken)
 }
 
 // The answer that a lookup writes.

@@ -3,12 +3,12 @@ use Rattle.answers.specs.Answers.{outcome}
 use Rattle.common_ancestors.proofs.Trials.{ancestry-known, ancestry-tells}
 use Rattle.common_ancestors.proofs.trial.is_above.Goals as goal
 
-pub returns-then-relation-ne-ACCEPTED : goal.returns-then-relation-ne-ACCEPTED
-returns-then-relation-ne-ACCEPTED c =
+pub returns-then-relation-eq-ACCEPTED : goal.returns-then-relation-eq-ACCEPTED
+returns-then-relation-eq-ACCEPTED c =
     let relation = c.ancestry-relation in
-    λ ps n of hw hb. absurd (c.if-relation-ne-ACCEPTED.true (ancestry-known ps _ n of _ _ (outcome relation.result) hw hb (relation.ensures.right ps of.prepared)))
+    λ ps of hw hb. ancestry-tells ps _ _ of _ _ (outcome relation.result) hw hb (relation.ensures.right ps of.prepared)
 
-pub returns : goal.returns
-returns c =
+pub returns-else-relation-eq-ACCEPTED : goal.returns-else-relation-eq-ACCEPTED
+returns-else-relation-eq-ACCEPTED c =
     let relation = c.ancestry-relation in
-    λ ps n of hw hb. ancestry-tells ps _ n of _ _ (outcome relation.result) hw hb (relation.ensures.right ps of.prepared)
+    λ ps of hw hb. absurd (c.if-relation-eq-ACCEPTED.false (ancestry-known ps _ _ of _ _ (outcome relation.result) hw hb (relation.ensures.right ps of.prepared)))

@@ -1,26 +1,19 @@
 -- `trial::tried` meets its contract. Assumes nothing.
-use mathlib.Core.Path.{refl, ap}
-use native.Mathlib.Omega.{arith}
+use Rattle.std.proofs.Common.{ap, arith}
 use Rattle.tree.proofs.Climbs.{up_in}
 use Rattle.common_ancestors.proofs.Trials.{climb_reaches}
 use Rattle.common_ancestors.proofs.trial.tried.Goals as goal
+use Rattle.common_ancestors.proofs.trial.tried.Goals.{then-words-ne-ACCEPTED-via-then-words-ne-ACCEPTED, then-words-ne-ACCEPTED-via-else-words-ne-ACCEPTED+then-table-entry}
 
-pub returns-then-words-ne-ACCEPTED : goal.returns-then-words-ne-ACCEPTED
-returns-then-words-ne-ACCEPTED c =
-    let climb = c.climb_words in
-    record { entry = rw c.broken.ensures (λ z. absurd (omega arith)); right = rw c.broken.ensures (λ ps of hb x e. absurd (c.if-words-ne-ACCEPTED.true (ap (λ o. o.number) (climb_reaches ps _ _ of _ _ x _ climb.ensures e)))) }
+pub returns-then-words-ne-ACCEPTED-clause-right : goal.returns-then-words-ne-ACCEPTED-clause-right
+returns-then-words-ne-ACCEPTED-clause-right c ps of hb x e =
+    let reached = climb_reaches ps _ _ of _ _ x _ c.climb_words.ensures e in
+    elim c.then-words-ne-ACCEPTED.branch [
+      | then-words-ne-ACCEPTED-via-then-words-ne-ACCEPTED w ↦ w.if-words-ne-ACCEPTED.true (ap (λ o. o.number) reached)
+      | then-words-ne-ACCEPTED-via-else-words-ne-ACCEPTED+then-table-entry w ↦ omega (arith, w.if-table-entry.true, ap (λ o. o.word) reached, up_in ps _ _ x e, of.count)
+    ]
 
-pub returns-then-n-word : goal.returns-then-n-word
-returns-then-n-word c =
-    let climb = c.climb_words in
-    record { entry = rw c.broken-then-n-word.ensures (λ z. absurd (omega arith)); right = rw c.broken-then-n-word.ensures (λ ps of hb x e. absurd (omega (arith, c.if-n-word.true, ap (λ o. o.word) (climb_reaches ps _ _ of _ _ x _ climb.ensures e), up_in ps _ _ x e, of.count))) }
-
-pub returns : goal.returns
-returns c =
-    let known = c.if-n-word.false in
-    let climb = c.climb_words in record {
-      entry = λ z. known;
-      right = λ ps of hb x e.
-          let q = ap (λ o. o.word) (climb_reaches ps _ _ of _ _ x _ climb.ensures e) in
-          record { found = refl; entry = q; tells = rw q at (c.is_above.ensures ps _ of known hb) };
-    }
+pub returns-clause-right : goal.returns-clause-right
+returns-clause-right c ps of hb x e =
+    let entry = ap (λ o. o.word) (climb_reaches ps _ _ of _ _ x _ c.climb_words.ensures e) in
+    (entry, rw entry at (c.is_above.ensures ps of c.if-table-entry.false hb))
