@@ -13,3 +13,4 @@ pub mod Puts
 pub mod Measures
 pub mod Exponents
 pub mod Options
+pub mod RefusalNumbers
