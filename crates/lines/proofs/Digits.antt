@@ -1,5 +1,6 @@
 -- A field read as a number, digit by digit. Assumes nothing.
 use mathlib.Core.Path.{◌≡◌, refl, sym, ap, ◌∙◌}
+use mathlib.Core.Logic.{◌⊎◌, inl, inr}
 use mathlib.Core.List.{List, [], ◌∷◌, ◌++◌}
 use mathlib.Core.Bool.{Bool, true, false, cond, ◌&&◌}
 use mathlib.Core.Option.{none, some, none-ne-some}
@@ -10,8 +11,11 @@ use lib.ListN.{length, get_or, take, drop}
 use lib.Seq.{length-take-le, take-suc, take_all, take-take, split_at}
 use lib.Dec.{leb}
 use borrow.Author.Tests.{le-leb, lt-leb}
+use Rattle.std.specs.Prelude.{Result, Ok, Err}
+use Rattle.std.specs.Result.{OkIff, result_ok}
 use Rattle.base.specs.Lists.{every}
 use Rattle.lines.specs.Fields.{is_digit, most_number, value, is_number, number}
+use Rattle.lines.specs.Results.{found_of}
 
 -- one digit more
 pub value-more : (acc : ℕ) (l : List ℕ) (b : ℕ) → value acc (l ++ (b ∷ [])) ≡ 10 * value acc l + (b - 48)
@@ -27,6 +31,10 @@ digit_low b h = rw (lt-leb 48 b h)
 
 pub digit-high : (b : ℕ) → 57 < b → is_digit b ≡ false
 digit-high b h = rw (le-leb 48 b (omega arith), lt-leb b 57 h)
+
+pub digit-other : (b : ℕ) → (b < 48) ⊎ (57 < b) → is_digit b ≡ false
+digit-other b (inl h) = digit_low b h
+digit-other b (inr h) = digit-high b h
 
 module _ {ℓ} {A : Type ℓ} (test : A → Bool) where
   pub every_more : (l : List A) (b : A) → every test l ≡ true → test b ≡ true → every test (l ++ (b ∷ [])) ≡ true
@@ -140,6 +148,11 @@ module _ (field : List ℕ) where
     read_whole h =
         let e : v ≡ value 0 field = p.is ∙ ap (value 0) whole in
         rw (le-leb 1 (length field) any, le-leb (length field) 10 few, sym (ap (every is_digit) whole) ∙ p.all, le-leb (value 0 field) most_number (omega (arith, e))) (ap some e)
+
+    -- what the conversion to 32 bits makes of the value
+    pub read-converted : {E : Type 0} (r : Result ℕ E) → OkIff r (v < 4294967296) v → found_of (result_ok r) ≡ number field
+    read-converted (Ok x) k = ap some k.1 ∙ read_whole (omega arith)
+    read-converted (Err e) k = read-great (omega arith)
 
 -- a number has digits alone
 pub number-digit : (field : List ℕ) (v : ℕ) → some v ≡ number field → (i : ℕ) → i < length field → 48 ≤ get_or field i 0

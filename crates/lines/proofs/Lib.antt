@@ -1,5 +1,6 @@
 -- Laws of the lines.
 pub mod Digits
+pub mod Decimals
 pub mod Parts
 pub mod Searches
 pub mod LineFields

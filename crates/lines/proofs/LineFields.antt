@@ -1,20 +1,21 @@
 -- What a line says, by its letter and by the parts behind it. Assumes nothing.
 use mathlib.Core.Path.{◌≡◌, refl, sym, ap, ◌∙◌}
-use mathlib.Core.Logic.{◌⊎◌, inl, inr}
 use mathlib.Core.List.{List, [], ◌∷◌, ◌++◌}
 use mathlib.Core.Bool.{Bool, true, false, cond}
 use mathlib.Core.Option.{Option, none, some, bind}
 use Prim.Native.Nat.{ℕ, ◌-◌}
 use native.Mathlib.Omega.{arith}
-use lib.ListN.{length, get_or, drop, length-drop}
+use lib.ListN.{length, take, drop, length-drop}
 use lib.Seq.{take_all}
-use borrow.Author.Tests.{eq-eqb, ne_eqb}
+use lib.Dec.{eqb}
+use borrow.Author.Tests.{ne_eqb}
+use Rattle.std.specs.Cmp.Lexicographic.{pointwise}
 use Rattle.base.specs.Limits.{top_mark}
 use Rattle.lines.specs.Text.{comma, dash}
 use Rattle.lines.specs.Fields.{is_number, number, single, count_of, parent_field, parent_of}
 use Rattle.lines.specs.Results.{headed, part}
 use Rattle.lines.proofs.Digits.{number-comma}
-use Rattle.lines.proofs.Parts.{single-read, headed-read}
+use Rattle.lines.proofs.Parts.{single-read, headed-read, headed-prefix}
 
 -- all that is left of a line
 pub part-rest : (a : ℕ) (line : List ℕ) → part a (length line) line ≡ drop a line
@@ -27,14 +28,26 @@ count-is line =
     headed-read 78 (λ e. omega arith) (λ fs. bind (single fs) number) refl line
     ∙ ap (λ o. cond (headed 78 line) o none) (single-read number number-comma (drop 2 line))
 
-module _ (line : List ℕ) (r : Bool) (is : r ≡ headed 78 line) where
-  pub count_none : r ≡ false → none ≡ count_of line
-  count_none t = rw (count-is line, sym is ∙ t)
+-- a line that begins otherwise than with a letter and a comma, or what stands behind these
+abbrev pub Begins : ℕ → List ℕ → Bool → Type 0
+Begins letter line t = pointwise eqb (take 2 line) (letter ∷ comma ∷ []) ≡ t
 
-  pub count-read : r ≡ true → (o : Option ℕ) → o ≡ number (part 2 (length line) line) → o ≡ count_of line
-  count-read t o h = rw (h, count-is line, sym is ∙ t, part-rest 2 line)
+pub head-is : (letter : ℕ) (line : List ℕ) (t : Bool) → Begins letter line t → headed letter line ≡ t
+head-is letter line t h = sym (headed-prefix letter line) ∙ h
+
+pub count_none : (line : List ℕ) → Begins 78 line false → none ≡ count_of line
+count_none line h = rw (count-is line, head-is 78 line false h)
+
+pub count-read : (line : List ℕ) → Begins 78 line true → (field : List ℕ) → field ≡ drop 2 line → (o : Option ℕ) → o ≡ number field → o ≡ count_of line
+count-read line h field e o q = rw (q, count-is line, head-is 78 line true h, e)
 
 -- `P,parent`
+parent-plain : (field : List ℕ) → (field ≡ dash ∷ [] → ⊥) → parent_field field ≡ number field
+unfolding parent_field number is_number
+parent-plain [] n = refl
+parent-plain (b ∷ []) n = rw (ne_eqb b dash (λ q. n (ap (λ x. x ∷ []) q)))
+parent-plain (b ∷ c ∷ f) n = refl
+
 parent-comma : (f g : List ℕ) → parent_field (f ++ (comma ∷ g)) ≡ none
 unfolding parent_field
 parent-comma [] [] = number-comma [] []
@@ -48,33 +61,17 @@ parent_is line =
     headed-read 80 (λ e. omega arith) (λ fs. bind (single fs) parent_field) refl line
     ∙ ap (λ o. cond (headed 80 line) o none) (single-read parent_field parent-comma (drop 2 line))
 
--- a field that is a dash alone, or not
-parent-dash : (line : List ℕ) → length line ≡ 3 → get_or line 2 0 ≡ dash → parent_field (drop 2 line) ≡ some top_mark
-unfolding parent_field
-parent-dash [] e q = absurd (omega arith)
-parent-dash (a ∷ []) e q = absurd (omega arith)
-parent-dash (a ∷ b ∷ []) e q = absurd (omega arith)
-parent-dash (a ∷ b ∷ c ∷ []) e q = rw (eq-eqb c dash q)
-parent-dash (a ∷ b ∷ c ∷ d ∷ l) e q = absurd (omega arith)
+pub parent-none : (line : List ℕ) → Begins 80 line false → none ≡ parent_of line
+parent-none line h = rw (parent_is line, head-is 80 line false h)
 
-abbrev NoDash : List ℕ → Type 0
-NoDash line = (length line ≡ 3 → ⊥) ⊎ (get_or line 2 0 ≡ dash → ⊥)
+module _ (line : List ℕ) (h : Begins 80 line true) (field : List ℕ) (e : field ≡ drop 2 line) where
+  behind : parent_of line ≡ parent_field field
+  behind = rw (parent_is line, head-is 80 line true h, e)
 
-parent-plain : (line : List ℕ) → NoDash line → parent_field (drop 2 line) ≡ number (drop 2 line)
-unfolding parent_field number is_number
-parent-plain [] n = refl
-parent-plain (a ∷ []) n = refl
-parent-plain (a ∷ b ∷ []) n = refl
-parent-plain (a ∷ b ∷ c ∷ []) (inl n) = absurd (n refl)
-parent-plain (a ∷ b ∷ c ∷ []) (inr q) = rw (ne_eqb c dash q)
-parent-plain (a ∷ b ∷ c ∷ d ∷ l) n = refl
+  -- a field that is a dash alone, or not
+  pub parent-top : field ≡ dash ∷ [] → some top_mark ≡ parent_of line
+  unfolding parent_field
+  parent-top d = sym (behind ∙ ap parent_field d)
 
-module _ (line : List ℕ) (r : Bool) (is : r ≡ headed 80 line) where
-  pub parent-none : r ≡ false → none ≡ parent_of line
-  parent-none t = rw (parent_is line, sym is ∙ t)
-
-  pub parent-top : r ≡ true → length line ≡ 3 → get_or line 2 0 ≡ dash → some top_mark ≡ parent_of line
-  parent-top t e q = rw (parent_is line, sym is ∙ t, parent-dash line e q)
-
-  pub parent-read : r ≡ true → NoDash line → (o : Option ℕ) → o ≡ number (part 2 (length line) line) → o ≡ parent_of line
-  parent-read t n o h = rw (h, parent_is line, sym is ∙ t, part-rest 2 line) (sym (parent-plain line n))
+  pub parent-read : (field ≡ dash ∷ [] → ⊥) → (o : Option ℕ) → o ≡ number field → o ≡ parent_of line
+  parent-read n o q = q ∙ sym (behind ∙ parent-plain field n)

@@ -4,13 +4,13 @@ use mathlib.Core.Logic.{◌⊎◌, inl, inr}
 use mathlib.Core.List.{List, [], ◌∷◌, ◌++◌}
 use mathlib.Core.Bool.{Bool, true, false, cond, ◌&&◌}
 use mathlib.Core.Option.{Option, none, some, bind}
-use Prim.Native.Nat.{ℕ, ◌≤◌, ◌<◌}
-use native.Mathlib.Omega.{arith}
+use Prim.Native.Nat.{ℕ}
 use native.Mathlib.Decide.{ℕ_discrete}
-use lib.ListN.{length, get_or, drop}
+use lib.ListN.{take, drop}
 use lib.Dec.{eqb}
 use borrow.Author.Tests.{eq-eqb, ne_eqb}
-use Rattle.base.proofs.Lists.{clash, All}
+use Rattle.std.specs.Cmp.Lexicographic.{pointwise}
+use Rattle.base.proofs.Lists.{All}
 use Rattle.lines.specs.Text.{comma}
 use Rattle.lines.specs.Fields.{parted, fields, tagged, single}
 use Rattle.lines.specs.Results.{headed}
@@ -125,28 +125,18 @@ module _ {A : Type 0} (letter : ℕ) (plain : letter ≡ comma → ⊥) (read : 
   headed-read (b ∷ []) = one b (ℕ_discrete b comma)
   headed-read (b ∷ c ∷ l) = more b c l (ℕ_discrete b comma) (ℕ_discrete c comma)
 
--- whether a line is headed by a letter
-module _ (letter : ℕ) where
-  pub headed-short : (line : List ℕ) → length line < 2 → false ≡ headed letter line
-  unfolding headed
-  headed-short [] h = refl
-  headed-short (b ∷ []) h = refl
-  headed-short (b ∷ c ∷ l) h = absurd (omega arith)
-
-  pub headed-comma : (line : List ℕ) → 2 ≤ length line → get_or line 0 0 ≡ letter → eqb (get_or line 1 0) comma ≡ headed letter line
-  unfolding headed
-  headed-comma [] h e = absurd (omega arith)
-  headed-comma (b ∷ []) h e = absurd (omega arith)
-  headed-comma (b ∷ c ∷ l) h e = rw (eq-eqb b letter e)
-
-  pub headed-other : (line : List ℕ) → 2 ≤ length line → (get_or line 0 0 ≡ letter → ⊥) → eqb (get_or line 0 0) letter ≡ headed letter line
-  unfolding headed
-  headed-other [] h n = absurd (omega arith)
-  headed-other (b ∷ []) h n = absurd (omega arith)
-  headed-other (b ∷ c ∷ l) h n = rw (ne_eqb b letter n)
-
-  pub headed-long : (line : List ℕ) → headed letter line ≡ true → 2 ≤ length line
-  unfolding headed
-  headed-long [] e = clash e
-  headed-long (b ∷ []) e = clash e
-  headed-long (b ∷ c ∷ l) e = omega arith
+-- a line that begins with a letter and a comma is headed by the letter
+pub headed-prefix : (letter : ℕ) (line : List ℕ) → pointwise eqb (take 2 line) (letter ∷ comma ∷ []) ≡ headed letter line
+unfolding headed
+headed-prefix letter [] = refl
+headed-prefix letter (b ∷ []) = go (eqb b letter)
+  where
+    go : (t : Bool) → (t && false) ≡ false
+    go true = refl
+    go false = refl
+headed-prefix letter (b ∷ c ∷ l) = go (eqb b letter) (eqb c comma)
+  where
+    go : (t u : Bool) → (t && (u && true)) ≡ (t && u)
+    go true true = refl
+    go true false = refl
+    go false u = refl

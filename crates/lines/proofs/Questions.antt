@@ -1,17 +1,17 @@
 -- What a line of a question says. Assumes nothing.
 use mathlib.Core.Path.{◌≡◌, refl, sym, ap, ◌∙◌}
 use mathlib.Core.List.{List, [], ◌∷◌, ◌++◌}
-use mathlib.Core.Bool.{Bool, true, false, cond}
+use mathlib.Core.Bool.{true, false, cond}
 use mathlib.Core.Option.{Option, none, some, map, bind}
-use Prim.Native.Nat.{ℕ, ◌+◌, ◌≤◌, ◌<◌}
+use Prim.Native.Nat.{ℕ, ◌+◌, ◌-◌, ◌<◌}
 use native.Mathlib.Omega.{arith}
-use lib.ListN.{length, drop}
+use lib.ListN.{length, take, drop}
 use Rattle.lines.specs.Text.{comma}
 use Rattle.lines.specs.Fields.{fields, number, single, Question, asked, question_of}
 use Rattle.lines.specs.Results.{headed, NextByte, part}
 use Rattle.lines.proofs.Digits.{number-comma}
 use Rattle.lines.proofs.Parts.{Plain, single-read, parted-plain, parted-join, headed-read}
-use Rattle.lines.proofs.LineFields.{part-rest}
+use Rattle.lines.proofs.LineFields.{Begins, head-is, part-rest}
 use Rattle.lines.proofs.Cuts.{parted-next, parted-last}
 
 -- the question of an entry and a depth that were read
@@ -44,40 +44,44 @@ pub question-is : (line : List ℕ) → question_of line ≡ cond (headed 81 lin
 unfolding question_of asked
 question-is line = headed-read 81 (λ e. omega arith) asked refl line
 
-module _ (line : List ℕ) (r : Bool) (is : r ≡ headed 81 line) where
-  pub question-none : r ≡ false → none ≡ question_of line
-  question-none t = rw (question-is line, sym is ∙ t)
+pub question-none : (line : List ℕ) → Begins 81 line false → none ≡ question_of line
+question-none line h = rw (question-is line, head-is 81 line false h)
 
-  module _ (t : r ≡ true) (c : ℕ) (next : NextByte line comma 2 c) where
-    asked_is : question_of line ≡ asked (fields (drop 2 line))
-    asked_is = rw (question-is line, sym is ∙ t)
+module _ (line : List ℕ) (h : Begins 81 line true) (rest : List ℕ) (e : rest ≡ drop 2 line) where
+  behind : question_of line ≡ asked (fields rest)
+  behind = rw (question-is line, head-is 81 line true h, e)
 
-    pub question-short : length line ≤ c → none ≡ question_of line
-    unfolding asked
-    question-short h = sym (asked_is ∙ ap asked (parted-last comma line 2 c next h))
+  -- no comma stands behind the letter's, or the first one at c
+  pub question-short : NextByte rest comma 0 (length rest) → none ≡ question_of line
+  unfolding asked
+  question-short next = sym (behind ∙ ap asked (parted-last comma rest 0 (length rest) next (omega arith)))
 
+  module _ (c : ℕ) (next : NextByte rest comma 0 c) (within : c < length rest) where
     abbrev first : Option ℕ
-    first = number (part 2 c line)
+    first = number (take c rest)
 
     abbrev second : Option ℕ
-    second = number (part (c + 1) (length line) line)
+    second = number (part (c + 1) (length rest) rest)
 
-    module _ (h : c < length line) where
-      two : question_of line ≡ both first second
-      two =
-          asked_is
-          ∙ ap asked (parted-next comma line 2 c next h)
-          ∙ asked-last (part 2 c line) (drop (c + 1) line)
-          ∙ ap (λ l. both first (number l)) (sym (part-rest (c + 1) line))
+    two : question_of line ≡ both first second
+    two =
+        behind
+        ∙ ap asked (parted-next comma rest 0 c next within)
+        ∙ asked-last (part 0 c rest) (drop (c + 1) rest)
+        ∙ ap (λ k. both (number (take k rest)) (number (drop (c + 1) rest))) z
+        ∙ ap (λ l. both first (number l)) (sym (part-rest (c + 1) rest))
+      where
+        z : c - 0 ≡ c
+        z = omega arith
 
-      pub question-first : none ≡ first → none ≡ question_of line
-      unfolding bind
-      question-first n = rw (two, sym n)
+    pub question-first : none ≡ first → none ≡ question_of line
+    unfolding bind
+    question-first n = rw (two, sym n)
 
-      pub question-second : none ≡ second → none ≡ question_of line
-      unfolding bind
-      question-second n = rw (two, sym n, both-none first)
+    pub question-second : none ≡ second → none ≡ question_of line
+    unfolding bind
+    question-second n = rw (two, sym n, both-none first)
 
-      pub question-read : (v d : ℕ) → some v ≡ first → some d ≡ second → some (record { entry = v; depth = d }) ≡ question_of line
-      unfolding bind
-      question-read v d m n = rw (two, sym m, sym n)
+    pub question-read : (v d : ℕ) → some v ≡ first → some d ≡ second → some (record { entry = v; depth = d }) ≡ question_of line
+    unfolding bind
+    question-read v d m n = rw (two, sym m, sym n)

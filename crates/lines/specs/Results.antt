@@ -1,27 +1,22 @@
 -- How a result says what a line says. Assumes nothing.
-use Rattle.std.specs.Prelude.{◌≡◌, List, [], ◌∷◌, Bool, false, ◌&&◌, ℕ, ◌+◌, ◌-◌, ◌≤◌, ◌<◌, length, get_or, take, drop, eqb}
+use Rattle.std.specs.Prelude.{◌≡◌, List, [], ◌∷◌, Bool, false, ◌&&◌, ℕ, ◌+◌, ◌-◌, ◌≤◌, ◌<◌, length, get_or, take, drop, eqb, Some, None}
 use Rattle.std.proofs.Math.Option.{Option, none, some}
 use Rattle.lines.specs.Text.{comma, line_feed}
 use Rattle.lines.specs.Fields.{number, Question}
 use Rattle.lines.specs.Bands.{band_line}
-use Rattle.lines.specs.declared.reading.Found.{Found}
-use Rattle.lines.specs.declared.reading.Found.TheVariants as found
-use Rattle.lines.specs.declared.reading.Asked.{Asked}
-use Rattle.lines.specs.declared.reading.Asked.TheVariants as asked
-use Rattle.lines.specs.declared.band_lines.Field.{Field}
-use Rattle.lines.specs.declared.band_lines.Field.TheVariants as field
-use Rattle.lines.specs.declared.band_lines.Listed.{Listed}
-use Rattle.lines.specs.declared.band_lines.Listed.TheVariants as listed
+use Rattle.lines.specs.declared.reading.Question.{Question as Asked}
+use Rattle.lines.specs.declared.band_lines.Band.{Band}
+use Rattle.std.specs.declared.option.Option as found
 
 -- the number that was read, or none
-abbrev pub found_of : Found → Option ℕ
-found_of (found.Number x) = some x
-found_of found.Other = none
+abbrev pub found_of : found.Option ℕ → Option ℕ
+found_of (Some x) = some x
+found_of None = none
 
 -- the question that was read, or none
-abbrev pub asked_of : Asked → Option Question
-asked_of (asked.Question v d) = some (record { entry = v.0; depth = d })
-asked_of asked.Other = none
+abbrev pub asked_of : found.Option Asked → Option Question
+asked_of (Some q) = some (record { entry = q.entry.0; depth = q.depth })
+asked_of None = none
 
 -- whether a line's first field is one stated letter, with a field behind it
 unfoldable pub headed : ℕ → List ℕ → Bool
@@ -52,12 +47,12 @@ pub record ReadTo {A : Type 0} (read : List ℕ → Option A) (bytes : List ℕ)
 abbrev pub NoneTo : {A : Type 0} → (List ℕ → Option A) → List ℕ → ℕ → ℕ → Type 0
 NoneTo read bytes byte from = (end : ℕ) → NextByte bytes byte from end → end < length bytes → none ≡ read (part from end bytes)
 
--- a number that ends in a stated byte
-abbrev pub FieldAt : List ℕ → ℕ → ℕ → Field → Type 0
-FieldAt text end at (field.Number x next) = ReadTo number text end at x next
-FieldAt text end at field.Other = NoneTo number text end at
+-- a number that ends in a stated byte, and the place behind that byte
+abbrev pub FieldAt : List ℕ → ℕ → ℕ → found.Option (ℕ × ℕ) → Type 0
+FieldAt text end at (Some (x, next)) = ReadTo number text end at x next
+FieldAt text end at None = NoneTo number text end at
 
--- a band, whose line ends in a line feed
-abbrev pub BandAt : List ℕ → ℕ → Listed → Type 0
-BandAt text at (listed.Band c f t r next) = ReadTo band_line text line_feed at (record { class = c.0; from = f; to = t; rate = r }) next
-BandAt text at listed.Other = NoneTo band_line text line_feed at
+-- a band, whose line ends in a line feed, and the place behind that
+abbrev pub BandAt : List ℕ → ℕ → found.Option (Band × ℕ) → Type 0
+BandAt text at (Some (b, next)) = ReadTo band_line text line_feed at (record { class = b.class.0; from = b.from; to = b.to; rate = b.rate }) next
+BandAt text at None = NoneTo band_line text line_feed at

@@ -2,85 +2,53 @@
 ghost use Rattle.std.specs.Prelude.{◌<◌};
 ghost use Rattle.lines.specs.Results.{FieldAt, BandAt};
 
-use crate::reading::{MOST_DIGITS, MOST_NUMBER};
+use crate::reading::MOST_DIGITS;
 use base::Node;
 
-// The band that was read and the place behind its line feed, or a line of another form.
+// The band that a line states: a class, its first amount and its last, and their rate.
 #[derive(Clone, Copy)]
-pub enum Listed {
-    Band {
-        class: Node,
-        from: u32,
-        to: u32,
-        rate: u32,
-        next: usize,
-    },
-    Other,
+pub struct Band {
+    pub class: Node,
+    pub from: u32,
+    pub to: u32,
+    pub rate: u32,
 }
 
-// The number that was read and the place behind the byte that ends it, or a field of another form.
-#[derive(Clone, Copy)]
-enum Field {
-    Number { value: u32, next: usize },
-    Other,
-}
-
-// The line `class,from,to,rate` that begins at a place of a text, and ends in a line feed.
-pub fn read_band(text: &[u8], at: usize) -> Listed
+// The line `class,from,to,rate` that begins at a place of a text, and the place behind the line feed that ends it.
+pub fn read_band(text: &[u8], at: usize) -> Option<(Band, usize)>
     ensures { BandAt text.now at result }
 {
-    let Field::Number {
-        value: class,
-        next: a,
-    } = read_field(text, at, b',')
-    else {
-        return Listed::Other;
-    };
-    let Field::Number {
-        value: from,
-        next: b,
-    } = read_field(text, a, b',')
-    else {
-        return Listed::Other;
-    };
-    let Field::Number { value: to, next: c } = read_field(text, b, b',') else {
-        return Listed::Other;
-    };
-    let Field::Number { value: rate, next } = read_field(text, c, b'\n') else {
-        return Listed::Other;
-    };
-    Listed::Band {
-        class: Node(class),
+    let (class, at) = read_field(text, at, b',')?;
+    let (from, at) = read_field(text, at, b',')?;
+    let (to, at) = read_field(text, at, b',')?;
+    let (rate, at) = read_field(text, at, b'\n')?;
+    let class = Node(class);
+    let band = Band {
+        class,
         from,
         to,
         rate,
-        next,
-    }
+    };
+    Some((band, at))
 }
 
-// The number of one to ten digits that begins at a place of a text, and ends in a stated byte below the digits.
-fn read_field(text: &[u8], at: usize, end: u8) -> Field
+// The number of one to ten digits that begins at a place of a text and ends in a stated byte below the digits, and the place behind that.
+fn read_field(text: &[u8], at: usize, end: u8) -> Option<(u32, usize)>
     requires { end < 48 }
     ensures { FieldAt text.now end at result }
 {
     let mut value: u64 = 0;
-    let mut i = at;
-    while i < text.len() {
-        let b = text[i];
-        if b < b'0' || b'9' < b {
-            if b != end || i == at || MOST_NUMBER < value {
-                return Field::Other;
+    for (digits, b) in text.get(at..)?.iter().enumerate() {
+        if !b.is_ascii_digit() {
+            if *b != end || digits == 0 {
+                return None;
             }
-            return Field::Number {
-                value: value as u32,
-                next: i + 1,
-            };
+            return Some((u32::try_from(value).ok()?, at + digits + 1));
         }
-        if MOST_DIGITS <= i - at {
-            return Field::Other;
+        if digits == MOST_DIGITS {
+            return None;
         }
-        value = 10 * value + (b - b'0') as u64;
-        i += 1;
+        value = 10 * value + u64::from(*b - b'0');
     }
-    Field::Other
+    None
 }

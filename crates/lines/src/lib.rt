@@ -4,4 +4,5 @@
 pub mod band_lines;
 pub mod reading;
 pub mod room;
+pub mod text;
 pub mod writing;

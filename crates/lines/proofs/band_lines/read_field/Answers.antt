@@ -1,68 +1,54 @@
--- `band_lines::read_field` meets its contract: the loop has read the digits before i. Assumes nothing.
-use mathlib.Core.Path.{◌≡◌}
-use mathlib.Core.Bool.{false}
-use Prim.Native.Nat.{ℕ, ◌*◌, ◌+◌, ◌≤◌, ◌<◌}
-use native.Mathlib.Omega.{arith}
-use lib.ListN.{get_or}
-use Rattle.lines.specs.Fields.{is_digit}
-use Rattle.lines.proofs.Digits.{digit_low, digit-high}
-use Rattle.lines.proofs.FieldReads.{run_none, run_fits, run-cut, run_more, run-other, run_long, run-empty, run-great, run-read}
+-- `band_lines::read_field` meets its contract: the loop has read so many digits from the place on. Assumes nothing.
+use Rattle.std.proofs.Common.{◌≡◌, drop, ◌∙◌, arith, length}
+use Rattle.std.proofs.lemmas.Slice.{between_to_end}
+use Rattle.lines.proofs.Digits.{digit-other}
+use Rattle.lines.proofs.FieldReads.{run_none, run_fits, run_more, run-other, run_long, run-empty, run-great, run-read}
 use Rattle.lines.proofs.band_lines.read_field.Goals as goal
-use Rattle.lines.proofs.band_lines.read_field.Goals.{At-loop-i, Else-b-gt57, Else-i-at-ge-MOST_DIGITS, Joined-then-b-lt48}
+use Rattle.lines.proofs.band_lines.read_field.Goals.{In_ok-b-items}
 
--- the byte at the place that the loop has come to
-abbrev byte : At-loop-i → ℕ
-byte l = get_or l.args.text.now l.loop-i.i 0
+-- what stands from the place on
+rest : (c : In_ok-b-items) → c.in_ok-b-items.b-items.now ≡ drop c.args.at c.args.text.now
+rest c = c.in_ok-b-items.ensures.lookup.0.2 ∙ between_to_end c.args.text.now c.args.at (length c.args.text.now) (omega arith)
 
--- it is no digit
-other : (j : Joined-then-b-lt48) → is_digit (byte (goal.at.Joined-then-b-lt48 j).At-loop-i) ≡ false
-other j =
-    let b = byte (goal.at.Joined-then-b-lt48 j).At-loop-i in
-    elim j.then-b-lt48.branch [ goal.then-b-lt48-via-then-b-lt48 w ↦ digit_low b w.if-b-lt48.true | goal.then-b-lt48-via-else-b-lt48+then-b-gt57 w ↦ digit-high b w.if-b-gt57.true ]
+pub loop-digits-init : goal.loop-digits-init
+loop-digits-init c = run_none _ _ _ _
 
 pub returns-then-b-end : goal.returns-then-b-end
 returns-then-b-end c =
+    let l = c.loop-digits in
+    let e = rest (goal.at.returns-then-b-end c).In_ok-b-items in
     elim c.then-b-end.branch [
-      | goal.then-b-end-via-then-b-end t ↦ run-other _ _ _ c.loop-i.i c.loop-i.value c.loop-i.invariant (omega arith) t.if-b-end.true (other (goal.at.returns-then-b-end c).Joined-then-b-lt48)
-      | goal.then-b-end-via-else-b-end+then-i-at t ↦ run-empty _ _ _ c.loop-i.i c.loop-i.value c.loop-i.invariant (omega arith) t.if-b-end.false t.if-i-at.true
-      | goal.then-b-end-via-else-b-end+else-i-at+then-value-gt-MOST_NUMBER t ↦ run-great _ _ _ c.loop-i.i c.loop-i.value c.loop-i.invariant (omega arith) t.if-b-end.false t.if-i-at.false t.if-value-gt-MOST_NUMBER.true
+      | goal.then-b-end-via-then-b-end t ↦ run-other _ _ _ _ e l.digits l.value l.invariant c.loop-digits-test.true t.if-b-end.true (digit-other _ c.if-not-is_ascii_digit.ensures.cases)
+      | goal.then-b-end-via-else-b-end+then-digits-eq0 t ↦ run-empty _ _ _ _ e l.digits l.value l.invariant c.loop-digits-test.true t.if-b-end.false t.if-digits-eq0.true
     ]
 
--- what stands there ends the number
-pub overflow_cast-result : goal.overflow_cast-result
-overflow_cast-result c = omega arith
+pub returns-in_err-ok : goal.returns-in_err-ok
+returns-in_err-ok c =
+    let l = c.loop-digits in
+    let e = rest (goal.at.returns-in_err-ok c).In_ok-b-items in
+    rw c.from_residual-in_err-ok.ensures (run-great _ _ _ _ e l.digits l.value l.invariant c.loop-digits-test.true c.if-b-end.false c.if-digits-eq0.false _ c.try_from.ensures c.in_err-ok.ensures.value)
 
-pub returns-then-b-lt48 : goal.returns-then-b-lt48
-returns-then-b-lt48 c =
-    run-read _ _ _ c.loop-i.i c.loop-i.value c.loop-i.invariant (omega arith) c.if-b-end.false c.if-i-at.false c.if-value-gt-MOST_NUMBER.false
+pub returns-then-not-is_ascii_digit : goal.returns-then-not-is_ascii_digit
+returns-then-not-is_ascii_digit c =
+    let l = c.loop-digits in
+    let e = rest (goal.at.returns-then-not-is_ascii_digit c).In_ok-b-items in
+    run-read _ _ _ _ e l.digits l.value l.invariant c.loop-digits-test.true c.if-b-end.false c.if-digits-eq0.false _ c.try_from.ensures _ c.in_ok-ok.ensures.value
 
--- it is a digit
-low : (d : Else-b-gt57) → byte (goal.at.Else-b-gt57 d).At-loop-i ≤ 57
-low d = d.if-b-gt57.false
-
-pub returns-then-i-at-ge-MOST_DIGITS : goal.returns-then-i-at-ge-MOST_DIGITS
-returns-then-i-at-ge-MOST_DIGITS c =
-    run_long _ _ _ c.loop-i.i c.loop-i.value c.loop-i.invariant (omega arith) (λ e. absurd (omega (arith, c.requires))) (omega arith)
-
-fits : (c : Else-i-at-ge-MOST_DIGITS) → 10 * c.loop-i.value + 9 < 10000000000
-fits c =
-    run_fits _ _ _ c.loop-i.i c.loop-i.value c.loop-i.invariant (omega arith)
+pub returns-then-digits-eq-MOST_DIGITS : goal.returns-then-digits-eq-MOST_DIGITS
+returns-then-digits-eq-MOST_DIGITS c =
+    let l = c.loop-digits in
+    let e = rest (goal.at.returns-then-digits-eq-MOST_DIGITS c).In_ok-b-items in
+    run_long _ _ _ _ e l.digits l.value l.invariant c.loop-digits-test.true (λ q. absurd (omega (arith, c.requires, c.if-not-is_ascii_digit.ensures.cases))) (omega arith)
 
 pub overflow_mul-value : goal.overflow_mul-value
-overflow_mul-value c = omega (arith, fits c)
-
-pub overflow_cast-value : goal.overflow_cast-value
-overflow_cast-value c = omega (arith, low (goal.at.overflow_cast-value c).Else-b-gt57)
+overflow_mul-value c = omega (arith, run_fits _ _ _ _ (rest (goal.at.overflow_mul-value c).In_ok-b-items) c.loop-digits.digits c.loop-digits.value c.loop-digits.invariant (omega (arith, c.loop-digits.invariant.few)))
 
 pub overflow_add-value : goal.overflow_add-value
-overflow_add-value c = omega (arith, fits c, low (goal.at.overflow_add-value c).Else-b-gt57)
+overflow_add-value c = omega (arith, c.if-not-is_ascii_digit.ensures.cases, run_fits _ _ _ _ (rest (goal.at.overflow_add-value c).In_ok-b-items) c.loop-digits.digits c.loop-digits.value c.loop-digits.invariant (omega (arith, c.loop-digits.invariant.few)))
 
-pub loop-i-preserved : goal.loop-i-preserved
-loop-i-preserved c =
-    run_more _ _ _ c.loop-i.i c.loop-i.value c.loop-i.invariant (omega arith) (omega arith) c.requires (omega arith) (low (goal.at.loop-i-preserved c).Else-b-gt57)
-
-pub returns : goal.returns
-returns c = run-cut _ _ _ c.loop-i.i c.loop-i.value c.loop-i.invariant c.loop-i-test.false
-
-pub loop-i-init : goal.loop-i-init
-loop-i-init c = run_none _ _ _
+pub loop-digits-preserved : goal.loop-digits-preserved
+loop-digits-preserved c =
+    let l = c.loop-digits in
+    let d = c.if-not-is_ascii_digit.ensures.cases in
+    rw c.from.ensures
+    (run_more _ _ _ _ (rest (goal.at.loop-digits-preserved c).In_ok-b-items) l.digits l.value l.invariant c.loop-digits-test.true (omega (arith, l.invariant.few)) c.requires d.0 d.1)

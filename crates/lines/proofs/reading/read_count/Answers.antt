@@ -1,26 +1,13 @@
 -- `reading::read_count` meets its contract. Assumes nothing.
-use mathlib.Core.Path.{sym, ◌∙◌}
+use Rattle.std.proofs.Common.{ap, ◌∙◌}
 use Rattle.lines.specs.Results.{found_of}
-use Rattle.lines.proofs.Parts.{headed-long}
 use Rattle.lines.proofs.LineFields.{count_none, count-read}
 use Rattle.lines.proofs.reading.read_count.Goals as goal
 
-pub returns-then-not-has_letter : goal.returns-then-not-has_letter
-returns-then-not-has_letter c =
-    let h = c.has_letter in
-    count_none _ h.result h.ensures c.if-not-has_letter.true
-
-pub slice_bounds-read_number-count : goal.slice_bounds-read_number-count
-slice_bounds-read_number-count c =
-    let h = c.has_letter in
-    headed-long 78 _ (sym h.ensures ∙ c.if-not-has_letter.false)
-
-pub slice_bounds-read_number-start : goal.slice_bounds-read_number-start
-slice_bounds-read_number-start c =
-    let h = c.has_letter in
-    headed-long 78 _ (sym h.ensures ∙ c.if-not-has_letter.false)
+pub returns-in_err-strip_prefix : goal.returns-in_err-strip_prefix
+returns-in_err-strip_prefix c = ap found_of c.from_residual.ensures ∙ count_none _ c.in_err-strip_prefix.ensures.cases
 
 pub returns : goal.returns
 returns c =
-    let h = c.has_letter in
-    count-read _ h.result h.ensures c.if-not-has_letter.false (found_of c.read_number.result) c.read_number.ensures
+    let p = c.in_ok-strip_prefix.ensures.cases in
+    count-read _ p.0 _ p.1 _ c.read_number.ensures

@@ -1,38 +1,32 @@
--- `reading::read_number` meets its contract: the loop has read the first i digits. Assumes nothing.
-use native.Mathlib.Omega.{arith}
-use lib.ListN.{get_or}
-use Rattle.lines.proofs.Digits.{valued-none, valued-more, valued_fits, digit_low, digit-high, read-empty, read-long, read-other, read-great, read_whole}
+-- `reading::read_number` meets its contract: the loop has read the digits before b. Assumes nothing.
+use Rattle.std.proofs.Common.{ap, ◌∙◌, arith}
+use Rattle.std.proofs.lemmas.Bool.Decides.{nat_tests}
+use Rattle.lines.specs.Results.{found_of}
+use Rattle.lines.proofs.Digits.{valued-none, valued-more, valued_fits, digit-other, read-empty, read-long, read-other, read-converted}
 use Rattle.lines.proofs.reading.read_number.Goals as goal
 
-pub returns-then-field-eq0 : goal.returns-then-field-eq0
-returns-then-field-eq0 c = grind (arith, read-empty c.args.field.now, read-long c.args.field.now)
+pub returns-then-is_empty : goal.returns-then-is_empty
+returns-then-is_empty c = grind (arith, read-empty c.args.field.now, read-long c.args.field.now)
 
-pub returns-then-b-lt48 : goal.returns-then-b-lt48
-returns-then-b-lt48 c =
-    let field = c.args.field.now in
-    let b = get_or field c.loop-i.i 0 in
-    read-other field c.loop-i.i (omega arith)
-    (elim c.then-b-lt48.branch [ goal.then-b-lt48-via-then-b-lt48 w ↦ digit_low b w.if-b-lt48.true | goal.then-b-lt48-via-else-b-lt48+then-b-gt57 w ↦ digit-high b w.if-b-gt57.true ])
+pub loop-b-init : goal.loop-b-init
+loop-b-init c = valued-none _
+
+pub returns-then-not-is_ascii_digit : goal.returns-then-not-is_ascii_digit
+returns-then-not-is_ascii_digit c =
+    read-other _ c.loop-b.b-index c.loop-b-test.true (digit-other _ c.if-not-is_ascii_digit.ensures.cases)
 
 pub overflow_mul-value : goal.overflow_mul-value
-overflow_mul-value c = omega (arith, valued_fits _ c.loop-i.i c.loop-i.value (omega arith) c.loop-i.invariant)
+overflow_mul-value c = omega (arith, valued_fits _ c.loop-b.b-index c.loop-b.value (omega arith) c.loop-b.invariant)
 
 pub overflow_add-value : goal.overflow_add-value
-overflow_add-value c =
-    omega (arith, valued_fits _ c.loop-i.i c.loop-i.value (omega arith) c.loop-i.invariant)
+overflow_add-value c = omega (arith, c.if-not-is_ascii_digit.ensures.cases, valued_fits _ c.loop-b.b-index c.loop-b.value (omega arith) c.loop-b.invariant)
 
-pub loop-i-preserved : goal.loop-i-preserved
-loop-i-preserved c =
-    let l = c.loop-i in
-    valued-more _ l.i l.value (omega arith) (omega (arith, c.if-b-lt48.false)) c.if-b-gt57.false l.invariant
-
-pub returns-then-value-gt-MOST_NUMBER : goal.returns-then-value-gt-MOST_NUMBER
-returns-then-value-gt-MOST_NUMBER c =
-    read-great _ c.loop-i.i c.loop-i.value (omega arith) (omega arith) c.loop-i-test.false c.loop-i.invariant c.if-value-gt-MOST_NUMBER.true
+pub loop-b-preserved : goal.loop-b-preserved
+loop-b-preserved c =
+    let d = c.if-not-is_ascii_digit.ensures.cases in
+    rw c.from.ensures (valued-more _ c.loop-b.b-index c.loop-b.value c.loop-b-test.true d.0 d.1 c.loop-b.invariant)
 
 pub returns : goal.returns
 returns c =
-    read_whole _ c.loop-i.i c.loop-i.value (omega arith) (omega arith) c.loop-i-test.false c.loop-i.invariant c.if-value-gt-MOST_NUMBER.false
-
-pub loop-i-init : goal.loop-i-init
-loop-i-init c = valued-none _
+    let l = c.loop-b in
+    ap found_of c.ok.ensures.value ∙ read-converted _ l.b-index l.value (grind (arith, nat_tests)) (omega arith) c.loop-b-test.false l.invariant _ c.try_from.ensures

@@ -1,11 +1,6 @@
--- `reading::read_number` meets its contract: the loop has read the first i digits. Assumes nothing.
-use Prim.Native.Nat.{◌-◌}
-use lib.ListN.{length}
+-- `reading::read_number` meets its contract: the loop has read the digits before b. Assumes nothing.
 use Rattle.lines.proofs.Digits.{Valued}
 use Rattle.lines.proofs.reading.read_number.Given as goal
 
-abbrev pub invariant-loop-i : goal.invariant-loop-i
-invariant-loop-i l = Valued l.field l.i l.value
-
-abbrev pub decreases-loop-i : goal.decreases-loop-i
-decreases-loop-i l = length l.field - l.i
+abbrev pub invariant-loop-b : goal.invariant-loop-b
+invariant-loop-b l = Valued l.field l.b-index l.value

@@ -1,35 +1,23 @@
 -- `reading::read_parent` meets its contract. Assumes nothing.
-use mathlib.Core.Path.{sym, ◌∙◌}
-use mathlib.Core.Logic.{inl, inr}
+use Rattle.std.proofs.Common.{sym, ap, ◌∙◌}
+use Rattle.std.proofs.lemmas.Bool.{false≢true}
+use Rattle.std.proofs.lemmas.Bool.Decides.{Decides-eqb}
+use Rattle.std.proofs.lemmas.Slice.Eq.{slice_eq-Decides}
 use Rattle.lines.specs.Results.{found_of}
-use Rattle.lines.proofs.Parts.{headed-long}
 use Rattle.lines.proofs.LineFields.{parent-none, parent-top, parent-read}
 use Rattle.lines.proofs.reading.read_parent.Goals as goal
-use Rattle.lines.proofs.reading.read_parent.Goals.{else-line-eq3-via-then-line-eq3+else-line-eq45, else-line-eq3-via-else-line-eq3}
 
-pub returns-then-not-has_letter : goal.returns-then-not-has_letter
-returns-then-not-has_letter c =
-    let h = c.has_letter in
-    parent-none _ h.result h.ensures c.if-not-has_letter.true
+pub returns-in_err-field : goal.returns-in_err-field
+returns-in_err-field c = ap found_of c.from_residual.ensures ∙ parent-none _ c.in_err-field.ensures.cases
 
-pub returns-then-line-eq45 : goal.returns-then-line-eq45
-returns-then-line-eq45 c =
-    let h = c.has_letter in
-    parent-top _ h.result h.ensures c.if-not-has_letter.false c.if-line-eq3.true c.if-line-eq45.true
-
-pub slice_bounds-read_number-count : goal.slice_bounds-read_number-count
-slice_bounds-read_number-count c =
-    let h = c.has_letter in
-    headed-long 80 _ (sym h.ensures ∙ c.if-not-has_letter.false)
-
-pub slice_bounds-read_number-start : goal.slice_bounds-read_number-start
-slice_bounds-read_number-start c =
-    let h = c.has_letter in
-    headed-long 80 _ (sym h.ensures ∙ c.if-not-has_letter.false)
+pub returns-then-eq : goal.returns-then-eq
+returns-then-eq c =
+    let p = c.in_ok-field.ensures.cases in
+    let same = slice_eq-Decides Decides-eqb _ _ _ c.eq.ensures in
+    parent-top _ p.0 _ p.1 (same.0 c.if-eq.true ∙ c.as_slice.ensures)
 
 pub returns : goal.returns
 returns c =
-    let h = c.has_letter in
-    parent-read _ h.result h.ensures c.if-not-has_letter.false
-    (elim c.else-line-eq3.branch [ else-line-eq3-via-then-line-eq3+else-line-eq45 w ↦ inr w.if-line-eq45.false | else-line-eq3-via-else-line-eq3 w ↦ inl w.if-line-eq3.false ])
-    (found_of c.read_number.result) c.read_number.ensures
+    let p = c.in_ok-field.ensures.cases in
+    let same = slice_eq-Decides Decides-eqb _ _ _ c.eq.ensures in
+    parent-read _ p.0 _ p.1 (λ e. false≢true (sym c.if-eq.false ∙ same.1 (e ∙ sym c.as_slice.ensures))) _ c.read_number.ensures

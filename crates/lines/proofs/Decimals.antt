@@ -6,6 +6,8 @@ use native.Mathlib.Omega.{arith}
 use native.Mathlib.Decide.{dec_lt}
 use lib.ListN.{length, length-append}
 use borrow.Author.Tests.{lt-ltb, le-ltb}
+use Rattle.std.specs.Fmt.{decimal as printed}
+use Rattle.std.proofs.lemmas.Fmt.{decimal_by_steps}
 use Rattle.lines.specs.Text.{digits, decimal}
 
 module _ (m x : ℕ) where
@@ -45,8 +47,12 @@ digits-below (suc m) (suc k) x h = go (dec_lt x 10) (digits-below m k (x / 10))
     go (yes b) ih = omega (arith, ap length (digits-one m x b))
     go (no b) ih = omega (arith, ap length (digits_more m x (omega arith)), length-append (digits m (x / 10)) ((48 + x % 10) ∷ []), ih (omega arith))
 
-pub decimal-long : (x : ℕ) → x < 2 ^ 64 → length (decimal x) ≤ 20
-decimal-long x h = digits-below 20 19 x (omega arith)
+pub decimal_long : (x : ℕ) → x < 2 ^ 64 → length (decimal x) ≤ 20
+decimal_long x h = digits-below 20 19 x (omega arith)
 
-pub decimal-short : (x : ℕ) → x < 2 ^ 32 → length (decimal x) ≤ 10
-decimal-short x h = digits-below 20 9 x (omega arith)
+pub decimal_short : (x : ℕ) → x < 2 ^ 32 → length (decimal x) ≤ 10
+decimal_short x h = digits-below 20 9 x (omega arith)
+
+-- what the library prints
+pub decimal_printed : (x : ℕ) → x < 2 ^ 64 → printed x ≡ decimal x
+decimal_printed x h = decimal_by_steps (λ n ds. n < 2 ^ 64 → ds ≡ decimal n) (λ n b k. sym (decimal-one n b)) (λ n ds low e k. ap (λ l. l ++ ((48 + n % 10) ∷ [])) (e (omega arith)) ∙ sym (decimal-more n k low)) x h h

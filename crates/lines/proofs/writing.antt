@@ -1,3 +1,0 @@
--- Laws of the module `writing`.
-pub mod Decimals
-pub mod Rows
