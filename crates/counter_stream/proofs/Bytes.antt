@@ -2,7 +2,7 @@
 use mathlib.Core.Path.{◌≡◌, refl, sym, ap, ◌∙◌}
 use mathlib.Core.List.{List, [], ◌∷◌, ◌++◌, append_assoc, append-nil}
 use mathlib.Core.Bool.{true, false}
-use Prim.Native.Nat.{ℕ, suc, ◌+◌, ◌-◌, ◌≤◌, ◌<◌}
+use Prim.Native.Nat.{ℕ, suc, ◌+◌, ◌≤◌, ◌<◌}
 use native.Mathlib.Omega.{arith}
 use lib.ListN.{length, take, set, length-append, length-take, length-set}
 use lib.Seq.{take-suc-set}
@@ -65,14 +65,12 @@ module _ (st : State) (b : Lent) (n : ℕ) (ready : Ready st n b) where
 module _ (st : State) (b : Lent) (ready : Ready st 1 b) (byte : ℕ) (text : List ℕ) where
   -- a line's end
   pub end-feeds : byte ≡ line_feed → (after : State) (left : Lent) → Room left
-      → Turned (on_line (stage_of st b) (take (st.held - 0) b.line)) (st.line + 1) after left.parents left.table text
+      → Turned (on_line (stage_of st b) (held_bytes st b)) (st.line + 1) after left text
       → ByteFed st b byte text after left
   unfolding some?
-  end-feeds e after left room t =
-      let z : st.held - 0 ≡ st.held = omega arith in
+  end-feeds e after left room u =
       let s = stage_of st b in
       let l = held_bytes st b in
-      let u : Turned (on_line s l) (st.line + 1) after left.parents left.table text = rw z at t in
       let none-held : held_bytes after left ≡ [] = ap (λ k. take k left.line) u.fresh in
       let f : StateFits after left = record { room = room; few = omega (arith, u.fresh); phase = u.fits; unbroken = ap (λ l. has l line_feed) none-held } in
       record {
@@ -94,7 +92,7 @@ module _ (st : State) (b : Lent) (ready : Ready st 1 b) (byte : ℕ) (text : Lis
       let k : st.held + 1 ≡ suc st.held = omega arith in
       let held : held_bytes (longer st) left ≡ held_bytes st b ++ (byte ∷ []) = ap (λ k. take k left.line) k ∙ take-suc-set b.line st.held byte (omega (arith, room.line)) in
       let f : StateFits (longer st) left = record {
-        room = record { line = omega (arith, room.line, length-set b.line st.held byte); list = room.list };
+        room = record { line = omega (arith, room.line, length-set b.line st.held byte); list = record { listed = room.list.listed; laid = room.list.laid; worked = room.list.worked } };
         few = omega arith;
         phase = longer-fits st.phase st ∙ ready.fits.phase;
         unbroken = ap (λ l. has l line_feed) held ∙ has_more (held_bytes st b) byte n ready.fits.unbroken;

@@ -1,12 +1,13 @@
 -- What a state that fits tells, and where the program then stands. Assumes nothing.
 use mathlib.Core.Path.{◌≡◌, refl, sym, ap, ◌∙◌}
+use mathlib.Core.Logic.{◌⊎◌, inl, inr}
 use mathlib.Core.List.{List, [], ◌∷◌}
 use mathlib.Core.Bool.{Bool, true, false, cond, not, ◌&&◌}
 use Prim.Native.Nat.{ℕ, zero, suc, ◌-◌, ◌≤◌, ◌<◌}
 use native.Mathlib.Omega.{arith}
 use lib.ListN.{length, take}
 use lib.Dec.{eqb, ltb, leb}
-use borrow.Author.Tests.{eqb-true, ltb-true, leb-true, le-leb, ne_eqb, not-true}
+use borrow.Author.Tests.{eqb-true, ltb-true, leb-true, le-leb, lt-leb, ne_eqb, not-true}
 use Rattle.base.specs.Lists.{has}
 use Rattle.base.specs.Limits.{table_words, space_words}
 use Rattle.base.proofs.Lists.{clash}
@@ -47,23 +48,26 @@ module _ (st : State) (b : Lent) where
       record { room = room_of b h.0; few = leb-true _ _ h.1; phase = p.0; unbroken = not-true _ p.1 }
 
   -- the tests, one behind the other
-  module _ (r : Bool) (is : r ≡ has_room b) where
-    pub no_place : (r && leb st.held most_bytes) ≡ false → false ≡ fits st b
+  pub no_place : (has_room b ≡ false) ⊎ (most_bytes < st.held) → false ≡ fits st b
+  unfolding fits
+  no_place (inl r) = rw r
+  no_place (inr h) = rw (lt-leb st.held most_bytes h) (go (has_room b))
+    where
+      go : (t : Bool) → false ≡ ((t && false) && (phase_fits st.phase st && not (has (held_bytes st b) line_feed)))
+      go true = refl
+      go false = refl
+
+  module _ (room : has_room b ≡ true) (few : st.held ≤ most_bytes) where
+    pub held-within : st.held ≤ length b.line
+    held-within = omega (arith, (room_of b room).line)
+
+    pub no_phase : phase_fits st.phase st ≡ false → false ≡ fits st b
     unfolding fits
-    no_place t = let z : (has_room b && leb st.held most_bytes) ≡ false = ap (λ x. x && leb st.held most_bytes) (sym is) ∙ t in rw z
+    no_phase e = rw (room, le-leb st.held most_bytes few, e)
 
-    module _ (t : (r && leb st.held most_bytes) ≡ true) where
-      place : (has_room b && leb st.held most_bytes) ≡ true
-      place = ap (λ x. x && leb st.held most_bytes) (sym is) ∙ t
-
-      pub held-within : st.held ≤ length b.line
-      held-within = let h = both (has_room b) _ place in omega (arith, (room_of b h.0).line, leb-true st.held most_bytes h.1)
-
-      pub place-fits : (p x : Bool) → p ≡ phase_fits st.phase st → x ≡ has (take (st.held - 0) b.line) line_feed → (p && not x) ≡ fits st b
-      unfolding fits
-      place-fits p x e d =
-          let z : st.held - 0 ≡ st.held = omega arith in
-          rw (place, e, d, z)
+    pub place-fits : phase_fits st.phase st ≡ true → (x : Bool) → x ≡ has (held_bytes st b) line_feed → not x ≡ fits st b
+    unfolding fits
+    place-fits p x e = rw (room, le-leb st.held most_bytes few, p, e)
 
   module _ (f : StateFits st b) where
     has-room : has_room b ≡ true
@@ -136,17 +140,14 @@ module _ (st : State) (b : Lent) (n : ℕ) where
   unfolding beginning
   begins h = rw (le-leb n (most_line - st.line) h)
 
-  module _ (x y : Bool) (numbered : x ≡ leb n (most_line - st.line)) (fit : y ≡ fits st b) where
-    pub ready_of : (x && y) ≡ true → Ready st n b
-    ready_of e =
-        let t = both x y e in
-        record { fits = fits-of st b (sym fit ∙ t.1); numbered = leb-true n (most_line - st.line) (sym numbered ∙ t.0) }
+  pub ready_of : leb n (most_line - st.line) ≡ true → fits st b ≡ true → Ready st n b
+  ready_of k f = record { fits = fits-of st b f; numbered = leb-true n (most_line - st.line) k }
 
-    pub unfit : (x && y) ≡ false → beginning st b n ≡ ended
-    unfolding beginning stage_with
-    unfit e = rw (sym numbered, sym fit) (go x y e)
-      where
-        go : (x y : Bool) → (x && y) ≡ false → cond x (cond y (stage_of st b) ended) ended ≡ ended
-        go true true e = clash (sym e)
-        go true false e = refl
-        go false y e = refl
+  pub unfit : (leb n (most_line - st.line) ≡ false) ⊎ (fits st b ≡ false) → beginning st b n ≡ ended
+  unfolding beginning stage_with
+  unfit (inl k) = rw k
+  unfit (inr f) = rw f (go (leb n (most_line - st.line)))
+    where
+      go : (t : Bool) → cond t ended ended ≡ ended
+      go true = refl
+      go false = refl

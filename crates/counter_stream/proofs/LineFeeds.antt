@@ -1,14 +1,12 @@
 -- Bytes without a line feed. Assumes nothing.
-use mathlib.Core.Path.{◌≡◌, refl, sym, ap, ◌∙◌}
+use mathlib.Core.Path.{◌≡◌, refl, sym, ◌∙◌}
 use mathlib.Core.List.{List, [], ◌∷◌, ◌++◌}
-use mathlib.Core.Bool.{true, false, cond}
-use Prim.Native.Nat.{ℕ, suc, ◌+◌, ◌≤◌, ◌<◌}
-use native.Mathlib.Omega.{arith}
+use mathlib.Core.Bool.{false}
+use Prim.Native.Nat.{ℕ}
 use native.Mathlib.Decide.{ℕ_discrete}
-use lib.ListN.{length, take, drop, get_or}
-use lib.Seq.{take_all, take-suc, split_at}
 use lib.Dec.{eqb}
 use borrow.Author.Tests.{eq-eqb, ne_eqb}
+use Rattle.std.specs.List.{list_any}
 use Rattle.base.specs.Lists.{some?, has}
 use Rattle.base.proofs.Lists.{clash}
 use Rattle.lines.specs.Text.{line_feed}
@@ -33,32 +31,12 @@ has_more (a ∷ l) b n e = go (ℕ_discrete line_feed a) (has_more l b n)
     go (yes q) ih = clash (sym e ∙ rw (eq-eqb line_feed a q))
     go (no q) ih = rw (ne_eqb line_feed a q) (ih (rw (ne_eqb line_feed a q) at e))
 
-has-hit : (l m : List ℕ) → has (l ++ (line_feed ∷ m)) line_feed ≡ true
+-- the library's search
+pub has-any : (l : List ℕ) → list_any (λ y. eqb y line_feed) l ≡ has l line_feed
 unfolding some?
-has-hit [] m = refl
-has-hit (a ∷ l) m = rw (has-hit l m) (go (eqb line_feed a))
+has-any [] = refl
+has-any (b ∷ l) = go (ℕ_discrete line_feed b) (has-any l)
   where
-    go : (t : _) → cond t true true ≡ true
-    go true = refl
-    go false = refl
-
--- the search: none among the first i bytes
-pub record NoLineFeed (bytes : List ℕ) (i : ℕ) : Type 0 where
-  pub within : i ≤ length bytes
-  pub none : has (take i bytes) line_feed ≡ false
-
-module _ (bytes : List ℕ) where
-  pub free-none : NoLineFeed bytes 0
-  unfolding some?
-  free-none = record { within = omega arith; none = refl }
-
-  pub free_more : (i : ℕ) → i < length bytes → (get_or bytes i 0 ≡ line_feed → ⊥) → NoLineFeed bytes i → NoLineFeed bytes (i + 1)
-  free_more i h n f =
-      let z : i + 1 ≡ suc i = omega arith in
-      record { within = omega arith; none = ap (λ k. has (take k bytes) line_feed) z ∙ ap (λ l. has l line_feed) (take-suc bytes i 0 h) ∙ has_more (take i bytes) (get_or bytes i 0) n f.none }
-
-  pub free-hit : (i : ℕ) → i < length bytes → get_or bytes i 0 ≡ line_feed → true ≡ has bytes line_feed
-  free-hit i h e = sym (ap (λ l. has l line_feed) (split_at bytes i 0 h ∙ ap (λ b. take i bytes ++ (b ∷ drop (suc i) bytes)) e) ∙ has-hit (take i bytes) (drop (suc i) bytes))
-
-  pub free-end : (i : ℕ) → length bytes ≤ i → NoLineFeed bytes i → false ≡ has bytes line_feed
-  free-end i h f = sym (ap (λ l. has l line_feed) (sym (take_all i bytes h)) ∙ f.none)
+    go : Dec (line_feed ≡ b) → list_any (λ y. eqb y line_feed) l ≡ has l line_feed → list_any (λ y. eqb y line_feed) (b ∷ l) ≡ has (b ∷ l) line_feed
+    go (yes q) ih = rw (eq-eqb line_feed b q, eq-eqb b line_feed (sym q))
+    go (no q) ih = rw (ne_eqb line_feed b q, ne_eqb b line_feed (λ z. q (sym z))) ih

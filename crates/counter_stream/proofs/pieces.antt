@@ -1,3 +1,2 @@
 -- Laws of the module `pieces`.
-pub mod Output
 pub mod Prefixes

@@ -12,7 +12,7 @@ use Rattle.counter_stream.specs.Lines.{ListRoom}
 -- room for the longest line and the longest list
 pub record Room (b : Lent) : Type 0 where
   pub line : most_bytes ≤ length b.line
-  pub list : ListRoom b.parents b.table b.space
+  pub list : ListRoom b
 
 -- room too for a row of the output: what a program lends
 pub record Buffers (b : Lent) (out : List ℕ) : Type 0 where

@@ -4,6 +4,8 @@
 mod phases;
 mod pieces;
 mod whole_lines;
+mod workspace;
 
-pub use phases::{Phase, State, is_at_end, start};
+pub use phases::{Phase, State};
 pub use pieces::{Progress, feed, finish};
+pub use workspace::Workspace;

@@ -1,13 +1,16 @@
 // The input piece by piece, and its end.
 ghost use Rattle.std.specs.Prelude.{◌≡◌, ◌++◌, ◌+◌, ◌≤◌, length, take};
-ghost use Rattle.lines.specs.Texts.{said, row_room};
-ghost use Rattle.counter_stream.specs.Fitness.{lent, ending, last_text};
+ghost use Rattle.lines.specs.Texts.{row_room};
+ghost use Rattle.counter_stream.specs.Fitness.{ending, last_text};
+ghost use Rattle.counter_stream.specs.Loans.{lent_by, SameLoan};
 ghost use Rattle.counter_stream.specs.Pieces.{Ready, ByteFed, FedPiece, Counted};
 
-use crate::phases::{Phase, State, end_state, is_at_end, is_fit, is_numbered};
-use crate::whole_lines::{Stepped, ends, whole_line};
+use crate::phases::{Phase, State};
+use crate::whole_lines::{Stepped, whole_line};
+use crate::workspace::Workspace;
 use lines::room::{LINE_ROOM, ROW_ROOM};
-use lines::writing::{Text, bad_line, nothing};
+use lines::text::Text;
+use lines::writing::bad_line;
 
 // The state behind some bytes of a piece, how many they are and how many were printed.
 #[derive(Clone, Copy)]
@@ -18,104 +21,85 @@ pub struct Progress {
 }
 
 // A piece of the input. Where state and buffers do not fit, the program is at its end.
-pub fn feed(
-    state: State,
-    input: &[u8],
-    line: &mut [u8],
-    out: &mut [u8],
-    parents: &mut [u32],
-    table: &mut [u32],
-    space: &mut [u32],
-) -> Progress
+pub fn feed(state: State, input: &[u8], out: &mut [u8], workspace: &mut Workspace<'_>) -> Progress
     ensures counts { Counted (length input.now) (length out.new) result }
-    ensures printed { FedPiece state (lent line.old parents.old table.old space.old) input.now result out.new (lent line.new parents.new table.new space.new) }
+    ensures printed { FedPiece state (lent_by workspace.old) input.now result out.new (lent_by workspace.new) }
+    ensures lent { SameLoan workspace.old workspace.new }
 {
-    if is_numbered(state, input.len()) & is_fit(state, line, parents, table, space) {
-        return read_bytes(state, input, line, out, parents, table, space);
+    if state.is_numbered(input.len()) && workspace.is_fit(state) {
+        return read_bytes(state, input, out, workspace);
     }
     Progress {
-        state: end_state(),
+        state: State::end(),
         used: input.len(),
         written: 0,
     }
 }
 
 // The bytes of a piece, as long as the output has room for a row.
-fn read_bytes(
-    state: State,
-    input: &[u8],
-    line: &mut [u8],
-    out: &mut [u8],
-    parents: &mut [u32],
-    table: &mut [u32],
-    space: &mut [u32],
-) -> Progress
-    requires { Ready state (length input.now) (lent line.old parents.old table.old space.old) }
+fn read_bytes(state: State, input: &[u8], out: &mut [u8], workspace: &mut Workspace<'_>) -> Progress
+    requires { Ready state (length input.now) (lent_by workspace.old) }
     ensures counts { Counted (length input.now) (length out.new) result }
-    ensures printed { FedPiece state (lent line.old parents.old table.old space.old) input.now result out.new (lent line.new parents.new table.new space.new) }
+    ensures printed { FedPiece state (lent_by workspace.old) input.now result out.new (lent_by workspace.new) }
+    ensures lent { SameLoan workspace.old workspace.new }
 {
     let mut at = state;
-    let mut used: usize = 0;
-    let mut written: usize = 0;
-    while used < input.len() && ROW_ROOM <= out.len() - written {
-        let b = input[used];
-        used += 1;
-        let step = byte(at, b, line, parents, table, space);
+    let mut written = 0;
+    for (used, b) in input.iter().enumerate() {
+        if out.len() - written < ROW_ROOM {
+            return Progress {
+                state: at,
+                used,
+                written,
+            };
+        }
+        let step = byte(at, *b, workspace);
         at = step.state;
-        let text = step.text;
-        written = put(out, written, text);
+        written = put(out, written, &step.text);
     }
     Progress {
         state: at,
-        used,
+        used: input.len(),
         written,
     }
 }
 
 // One byte more.
-fn byte(
-    state: State,
-    b: u8,
-    line: &mut [u8],
-    parents: &mut [u32],
-    table: &mut [u32],
-    space: &mut [u32],
-) -> Stepped
-    requires { Ready state 1 (lent line.old parents.old table.old space.old) }
-    ensures { ByteFed state (lent line.old parents.old table.old space.old) b (said result.text.bytes result.text.count) result.state (lent line.new parents.new table.new space.new) }
+fn byte(state: State, b: u8, workspace: &mut Workspace<'_>) -> Stepped
+    requires { Ready state 1 (lent_by workspace.old) }
+    ensures fed { ByteFed state (lent_by workspace.old) b result.text result.state (lent_by workspace.new) }
+    ensures lent { SameLoan workspace.old workspace.new }
 {
-    if is_at_end(state) {
-        return ends(nothing());
+    if state.is_at_end() {
+        return Stepped::last(Text::new());
+    }
+    if b == b'\n' {
+        return whole_line(state, workspace);
     }
     let held = state.held;
-    if b == b'\n' {
-        return whole_line(state, &line[0..held], parents, table, space);
-    }
     if LINE_ROOM <= held {
-        return ends(bad_line(state.line));
+        return Stepped::last(bad_line(state.line));
     }
-    line[held] = b;
-    let mut next = state;
-    next.held = held + 1;
+    workspace.line[held] = b;
     Stepped {
-        state: next,
-        text: nothing(),
+        state: State {
+            held: held + 1,
+            ..state
+        },
+        text: Text::new(),
     }
 }
 
 // A text behind the first bytes of the output. Answers how many they are then.
-fn put(out: &mut [u8], from: usize, text: Text) -> usize
+fn put(out: &mut [u8], from: usize, text: &Text) -> usize
     requires { from + row_room ≤ length out.old }
-    ensures { (result ≤ length out.new) × (take result out.new ≡ take from out.old ++ said text.bytes text.count) }
+    ensures fits { result ≤ length out.new }
+    ensures printed { take result out.new ≡ take from out.old ++ text.now }
 {
-    let bytes = text.bytes;
-    let count = text.count;
-    let mut i: usize = 0;
-    while i < count && i < ROW_ROOM {
-        out[from + i] = bytes[i];
-        i += 1;
-    }
-    from + i
+    let bytes = text.as_slice();
+    let end = from + bytes.len();
+    out[from..end].copy_from_slice(bytes);
+    end
 }
 
 // The end of the input. Answers how many bytes were printed: none, where the output has no room for a row.
@@ -126,23 +110,18 @@ pub fn finish(state: State, out: &mut [u8]) -> usize
     if out.len() < ROW_ROOM {
         return 0;
     }
-    put(out, 0, last_text(state))
+    put(out, 0, &last_text(state))
 }
 
 // What the end of the input prints.
 fn last_text(state: State) -> Text
-    ensures { said result.bytes result.count ≡ ending state }
+    ensures { result ≡ ending state }
 {
-    let phase = state.phase;
-    match phase {
+    match state.phase {
         Phase::AwaitsCount => bad_line(1),
         Phase::AwaitsParent => bad_line(state.line),
-        Phase::AwaitsQuestion => {
-            if state.held == 0 {
-                return nothing();
-            }
-            bad_line(state.line)
-        }
-        Phase::AtEnd => nothing(),
+        Phase::AwaitsQuestion if state.held == 0 => Text::new(),
+        Phase::AwaitsQuestion => bad_line(state.line),
+        Phase::AtEnd => Text::new(),
     }
 }

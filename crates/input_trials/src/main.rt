@@ -3,10 +3,10 @@
 #![tactic(auto)]
 
 ghost use Rattle.std.specs.Prelude.{◌≤◌, length, IfOk};
-ghost use Rattle.counter_stream.specs.Fitness.{lent};
+ghost use Rattle.counter_stream.specs.Loans.{lent_by};
 ghost use Rattle.counter_stream.specs.Pieces.{Buffers};
 
-use counter_stream::{State, feed, finish, start};
+use counter_stream::{State, Workspace, feed, finish};
 use lines::room::{LINE_ROOM, LIST_ROOM, SPACE_ROOM, TABLE_ROOM};
 use std::io;
 use std::io::Read;
@@ -19,15 +19,13 @@ fn main(rt: HostRuntime) -> io::Result<()> {
     let mut out = [0u8; 8192];
     let mut inputs = [0u8; 8192];
     let n = read_full(&mut rt.reader(), &mut inputs)?;
-    all(
-        &rt,
-        &inputs[..n],
-        &mut line,
-        &mut out,
-        &mut parents,
-        &mut table,
-        &mut space,
-    )
+    let mut workspace = Workspace {
+        line: &mut line,
+        parents: &mut parents,
+        table: &mut table,
+        space: &mut space,
+    };
+    all(&rt, &inputs[..n], &mut out, &mut workspace)
 }
 
 // Reads until the bytes are full or the input ends. Answers how many were read.
@@ -49,83 +47,39 @@ fn read_full<R: Read>(reader: &mut R, bytes: &mut [u8]) -> io::Result<usize>
 fn all(
     rt: &impl Print,
     inputs: &[u8],
-    line: &mut [u8],
     out: &mut [u8],
-    parents: &mut [u32],
-    table: &mut [u32],
-    space: &mut [u32],
+    workspace: &mut Workspace<'_>,
 ) -> io::Result<()>
-    requires { Buffers (lent line.old parents.old table.old space.old) out.old }
+    requires { Buffers (lent_by workspace.old) out.old }
 {
-    let mut from: usize = 0;
-    while from < inputs.len() {
-        let end = end_from(inputs, from);
-        answer(rt, &inputs[from..end], line, out, parents, table, space)?;
-        if inputs.len() - end < 2 {
-            return Ok(());
-        }
-        from = end + 2;
+    let mut rest = inputs;
+    while !rest.is_empty() {
+        let end = rest.iter().position(|b| *b == b';').unwrap_or(rest.len());
+        answer(rt, &rest[..end], out, workspace)?;
+        let Some(behind) = rest.get(end + 2..) else {
+            break;
+        };
+        rest = behind;
     }
     Ok(())
 }
 
-// The place of the first `;` from a place on, or the length.
-fn end_from(bytes: &[u8], from: usize) -> usize
-    requires { from ≤ length bytes.now }
-    ensures { (from ≤ result) × (result ≤ length bytes.now) }
-{
-    let mut i = from;
-    while i < bytes.len() {
-        if bytes[i] == b';' {
-            return i;
-        }
-        i += 1;
-    }
-    i
-}
-
-// Gives an input and its end.
+// Gives an input, cut in its middle, and its end.
 fn answer(
     rt: &impl Print,
     input: &[u8],
-    line: &mut [u8],
     out: &mut [u8],
-    parents: &mut [u32],
-    table: &mut [u32],
-    space: &mut [u32],
+    workspace: &mut Workspace<'_>,
 ) -> io::Result<()>
-    requires { Buffers (lent line.old parents.old table.old space.old) out.old }
+    requires { Buffers (lent_by workspace.old) out.old }
+    ensures { Buffers (lent_by workspace.new) out.new }
 {
-    let state = halves(rt, input, line, out, parents, table, space)?;
+    let (front, back) = input.split_at(input.len() / 2);
+    let half = piece(rt, State::start(), front, out, workspace)?;
+    let state = piece(rt, half, back, out, workspace)?;
     let n = finish(state, out);
     rt.write_all(&out[..n])?;
     rt.write_all(b";\n")
-}
-
-// Gives an input, cut in its middle.
-fn halves(
-    rt: &impl Print,
-    input: &[u8],
-    line: &mut [u8],
-    out: &mut [u8],
-    parents: &mut [u32],
-    table: &mut [u32],
-    space: &mut [u32],
-) -> io::Result<State>
-    requires { Buffers (lent line.old parents.old table.old space.old) out.old }
-{
-    let cut = input.len() / 2;
-    let half = piece(
-        rt,
-        start(),
-        &input[0..cut],
-        line,
-        out,
-        parents,
-        table,
-        space,
-    )?;
-    piece(rt, half, &input[cut..], line, out, parents, table, space)
 }
 
 // Gives a piece of an input, whose output has room, and writes what it prints.
@@ -133,16 +87,13 @@ fn piece(
     rt: &impl Print,
     state: State,
     input: &[u8],
-    line: &mut [u8],
     out: &mut [u8],
-    parents: &mut [u32],
-    table: &mut [u32],
-    space: &mut [u32],
+    workspace: &mut Workspace<'_>,
 ) -> io::Result<State>
-    requires { Buffers (lent line.old parents.old table.old space.old) out.old }
+    requires { Buffers (lent_by workspace.old) out.old }
+    ensures { Buffers (lent_by workspace.new) out.new }
 {
-    let fed = feed(state, input, line, out, parents, table, space);
-    let written = fed.written;
-    rt.write_all(&out[..written])?;
+    let fed = feed(state, input, out, workspace);
+    rt.write_all(&out[..fed.written])?;
     Ok(fed.state)
 }

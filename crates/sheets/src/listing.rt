@@ -9,7 +9,7 @@ ghost use Rattle.sheets.specs.Listings.{LineRead, ListingOf};
 use crate::keys::lay;
 use crate::sweeping::is_covered;
 use base::amounts::{MOST_LINES, MOST_RATE, MOST_SUM};
-use lines::band_lines::{Listed, read_band};
+use lines::band_lines::read_band;
 
 // The first bad line's number, or how many lines there are.
 #[derive(Clone, Copy)]
@@ -64,20 +64,13 @@ fn read_line(
     if MOST_LINES <= k {
         return Line::Bad;
     }
-    let Listed::Band {
-        class,
-        from,
-        to,
-        rate,
-        next,
-    } = read_band(text, at)
-    else {
+    let Some((band, next)) = read_band(text, at) else {
         return Line::Bad;
     };
-    if !is_band(depths, d, class.0, from, to, rate) {
+    if !is_band(depths, d, band.class.0, band.from, band.to, band.rate) {
         return Line::Bad;
     }
-    lay(keys, words, k, class.0, from, to, rate);
+    lay(keys, words, k, band.class.0, band.from, band.to, band.rate);
     Line::Stored(next)
 }
 

@@ -1,17 +1,11 @@
--- Each slice keeps its length, and each turn reads a byte at least.
-use mathlib.Core.Path.{◌≡◌}
-use Prim.Native.Nat.{◌-◌, ◌≤◌}
+-- The buffers keep their room, and each turn reads a byte at least.
 use lib.ListN.{length}
+use Rattle.counter_stream.specs.Loans.{lent_by}
+use Rattle.counter_stream.specs.Pieces.{Buffers}
 use Rattle.counter.proofs.piece.Given as goal
 
-abbrev pub invariant-loop-from : goal.invariant-loop-from
-invariant-loop-from g l =
-    (l.from ≤ length l.input)
-    × (length l.line ≡ length l.initial.line)
-    × (length l.out ≡ length l.initial.out)
-    × (length l.parents ≡ length l.initial.parents)
-    × (length l.table ≡ length l.initial.table)
-    × (length l.space ≡ length l.initial.space)
+abbrev pub invariant-loop-rest : goal.invariant-loop-rest
+invariant-loop-rest g l = Buffers (lent_by l.workspace) l.out
 
-abbrev pub decreases-loop-from : goal.decreases-loop-from
-decreases-loop-from g l = length l.input - l.from
+abbrev pub decreases-loop-rest : goal.decreases-loop-rest
+decreases-loop-rest g l = length l.rest

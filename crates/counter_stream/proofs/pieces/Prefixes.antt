@@ -1,14 +1,13 @@
 -- Within a piece: the first bytes were read, and what they print was written. Assumes nothing.
 use mathlib.Core.Path.{◌≡◌, refl, ap, ◌∙◌}
 use mathlib.Core.List.{List, [], ◌∷◌, ◌++◌}
-use Prim.Native.Nat.{ℕ, zero, suc, ◌+◌, ◌-◌, ◌≤◌, ◌<◌}
+use Prim.Native.Nat.{ℕ, suc, ◌+◌, ◌≤◌, ◌<◌}
 use native.Mathlib.Omega.{arith}
 use lib.ListN.{length, take, get_or, length-take}
 use lib.Seq.{take-suc}
 use Rattle.counter_stream.specs.declared.phases.State.{State}
-use Rattle.lines.specs.Texts.{row_room}
 use Rattle.counter_stream.specs.Fitness.{Lent}
-use Rattle.counter_stream.specs.Pieces.{StateFits, Ready, Fed, ByteFed, Counted}
+use Rattle.counter_stream.specs.Pieces.{StateFits, Ready, Fed, ByteFed}
 use Rattle.counter_stream.proofs.Bytes.{fed-none}
 use Rattle.counter_stream.proofs.Theorems.{fed-join}
 
@@ -24,7 +23,7 @@ module _ (st : State) (b : Lent) (input : List ℕ) (ready : Ready st (length in
   partway_start out = record { there = omega arith; within = omega arith; nothing = λ e. refl; fits = ready.fits; fed = fed-none st b (length input) ready }
 
   module _ (out : List ℕ) (at : State) (left : Lent) (used written : ℕ) (p : Partway st b input out at left used written) where
-    pub partway-ready : used < length input → Ready at 1 left
+    partway-ready : used < length input → Ready at 1 left
     partway-ready h = record { fits = p.fits; numbered = omega (arith, p.fed.lines, ready.numbered, length-take used input) }
 
     pub partway-more : used < length input → (text : List ℕ) (next : State) (kept : Lent) → ByteFed at left (get_or input used 0) text next kept
@@ -39,14 +38,3 @@ module _ (st : State) (b : Lent) (input : List ℕ) (ready : Ready st (length in
           fed = fed-join st b (length input) (take used input) (take written out) at left p.fed 1 (get_or input used 0 ∷ []) text next kept g.fed (partway-ready h).numbered
               (take (used + 1) input) (take written₁ out₁) (ap (λ n. take n input) k ∙ take-suc input used 0 h) e;
         }
-
-    -- the piece is at its end, or the output has no room for a row
-    pub partway-whole : length input ≤ used → Counted (length input) (length out) (record { state = at; used = used; written = written })
-    partway-whole h = record { there = p.there; within = p.within; all = λ k. absurd (omega arith); some = λ k room. omega arith }
-
-    pub partway-full : length out - written < row_room → Counted (length input) (length out) (record { state = at; used = used; written = written })
-    partway-full h = record { there = p.there; within = p.within; all = λ k. omega (arith, p.within); some = λ k room. go used p.nothing room }
-      where
-        go : (used : ℕ) → (used ≡ 0 → written ≡ 0) → row_room ≤ length out → 0 < used
-        go zero e room = absurd (omega (arith, e refl))
-        go (suc used) e room = omega arith

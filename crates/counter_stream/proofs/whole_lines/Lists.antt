@@ -17,7 +17,7 @@ use Rattle.lines.specs.Counter.{most_listed, bad_list, header_row, fault}
 use Rattle.lines.specs.Stages.{Turn, asking, listed}
 use Rattle.counter_stream.specs.declared.phases.Phase.TheVariants.{AwaitsQuestion}
 use Rattle.counter_stream.specs.declared.phases.State.{State}
-use Rattle.counter_stream.specs.Fitness.{end_state}
+use Rattle.counter_stream.specs.Fitness.{Lent, end_state}
 use Rattle.counter_stream.specs.Lines.{ListDue, Turned}
 
 -- with room for the table and the space only the list turns it away
@@ -41,8 +41,8 @@ refusal-some ps t s number word says z = go (refusal ps t s) says
 abbrev turn : State → List ℕ → Turn
 turn st parents = listed (st.count - st.filled) (take st.filled parents) st.line
 
-module _ (st : State) (parents table space : List ℕ) (due : ListDue st parents table space) (text : List ℕ) where
-  pub more-to-come : st.filled < st.count → text ≡ [] → Turned (turn st parents) st.line st parents table text
+module _ (st : State) (b : Lent) (due : ListDue st b) (text : List ℕ) where
+  pub more-to-come : st.filled < st.count → text ≡ [] → Turned (turn st b.parents) st.line st b text
   unfolding listed
   more-to-come h e =
       let z : st.count - st.filled ≡ suc (st.count - suc st.filled) = omega arith in
@@ -55,39 +55,36 @@ module _ (st : State) (parents table space : List ℕ) (due : ListDue st parents
       }
 
   -- the list is whole, and was lent to be prepared
-  module _ (h : st.count ≤ st.filled) (number word : ℕ) (says : Says (preparing (take (st.count - 0) parents) (length table) (length space)) number word) where
-    abbrev whole : List ℕ
-    whole = take (st.count - 0) parents
-
-    same : whole ≡ take st.filled parents
-    same = let z : st.count - 0 ≡ st.filled = omega (arith, due.read) in ap (λ k. take k parents) z
+  module _ (h : st.count ≤ st.filled) (whole : List ℕ) (is : whole ≡ take st.count b.parents) (number word : ℕ) (says : Says (preparing whole (length b.table) (length b.space)) number word) where
+    same : whole ≡ take st.filled b.parents
+    same = let z : st.count ≡ st.filled = omega (arith, due.read) in is ∙ ap (λ k. take k b.parents) z
 
     long : length whole ≡ st.count
-    long = omega (arith, length-take (st.count - 0) parents, due.few, due.room.listed)
+    long = omega (arith, ap length is, length-take st.count b.parents, due.few, due.room.listed)
 
-    judged : refusal whole (length table) (length space) ≡ fault (take st.filled parents)
-    judged = refusal-fault whole (length table) (length space) (omega (arith, long, due.few, due.room.laid)) (omega (arith, long, due.few, due.room.worked)) ∙ ap fault same
+    judged : refusal whole (length b.table) (length b.space) ≡ fault (take st.filled b.parents)
+    judged = refusal-fault whole (length b.table) (length b.space) (omega (arith, long, due.few, due.room.laid)) (omega (arith, long, due.few, due.room.worked)) ∙ ap fault same
 
     empty : st.count - st.filled ≡ zero
     empty = omega arith
 
-    pub list-taken : number ≡ 0 → text ≡ header_row → (laid : List ℕ) → Prepared whole laid
-        → Turned (turn st parents) st.line (record { phase = AwaitsQuestion; line = st.line; count = st.count; filled = st.filled; held = 0 }) parents laid text
+    pub list-taken : number ≡ 0 → text ≡ header_row → (left : Lent) → Prepared whole left.table
+        → Turned (turn st b.parents) st.line (record { phase = AwaitsQuestion; line = st.line; count = st.count; filled = st.filled; held = st.held }) left text
     unfolding listed Option-elim
-    list-taken z e laid p =
-        let none-there : fault (take st.filled parents) ≡ none = sym judged ∙ refusal-none whole (length table) (length space) (sym says.0 ∙ z) in
-        let words : take (table_words st.count) laid ≡ table_of (take st.filled parents) = ap (λ n. take (table_words n) laid) (sym long) ∙ p.words ∙ ap table_of same in
+    list-taken z e left p =
+        let none-there : fault (take st.filled b.parents) ≡ none = sym judged ∙ refusal-none whole (length b.table) (length b.space) (sym says.0 ∙ z) in
+        let words : take (table_words st.count) left.table ≡ table_of (take st.filled b.parents) = ap (λ n. take (table_words n) left.table) (sym long) ∙ p.words ∙ ap table_of same in
         rw (empty, none-there) record {
           printed = e;
           stands = ap (λ t. asking t st.line) words;
           fits = le-leb st.count most_listed due.few;
-          fresh = refl;
+          fresh = due.fresh;
           lines = omega arith;
         }
 
-    pub list-refused : (number ≡ 0 → ⊥) → text ≡ bad_list (record { number = number; word = word }) → (laid : List ℕ)
-        → Turned (turn st parents) st.line end_state parents laid text
+    pub list-refused : (number ≡ 0 → ⊥) → text ≡ bad_list (record { number = number; word = word }) → (left : Lent)
+        → Turned (turn st b.parents) st.line end_state left text
     unfolding listed Option-elim
-    list-refused z e laid =
-        let there : fault (take st.filled parents) ≡ some (record { number = number; word = word }) = sym judged ∙ refusal-some whole (length table) (length space) number word says z in
+    list-refused z e left =
+        let there : fault (take st.filled b.parents) ≡ some (record { number = number; word = word }) = sym judged ∙ refusal-some whole (length b.table) (length b.space) number word says z in
         rw (empty, there) record { printed = e; stands = refl; fits = refl; fresh = refl; lines = omega arith }

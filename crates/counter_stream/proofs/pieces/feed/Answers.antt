@@ -1,20 +1,19 @@
 -- `pieces::feed` meets its contract. Assumes nothing.
-use mathlib.Core.Path.{refl}
-use native.Mathlib.Omega.{arith}
-use Rattle.counter_stream.specs.Fitness.{lent}
+use Rattle.std.proofs.Common.{refl, sym, ◌∙◌, inl, inr}
+use Rattle.counter_stream.specs.Loans.{lent_by}
 use Rattle.counter_stream.proofs.Fitness.{ready_of, unfit}
 use Rattle.counter_stream.proofs.Bytes.{unfit-feeds}
 use Rattle.counter_stream.proofs.pieces.feed.Goals as goal
 
 pub read_bytes-requires : goal.read_bytes-requires
 read_bytes-requires c =
-    let n = c.is_numbered in
-    let f = c.is_fit in
-    ready_of c.args.state (lent c.args.line.now c.args.parents.now c.args.table.now c.args.space.now) _ n.result f.result n.ensures f.ensures c.if-is_numbered-is_fit.true
+    ready_of c.args.state (lent_by c.args.workspace.now) _ (sym c.is_numbered.ensures ∙ c.if-is_numbered.true) (sym c.is_fit.ensures ∙ c.if-is_fit.true)
 
-pub returns : goal.returns
-returns c =
-    let n = c.is_numbered in
-    let f = c.is_fit in
-    let e = unfit c.args.state (lent c.args.line.now c.args.parents.now c.args.table.now c.args.space.now) _ n.result f.result n.ensures f.ensures c.if-is_numbered-is_fit.false in
-    record { counts = record { there = omega arith; within = omega arith; all = λ h. absurd (omega arith); some = λ h room. h }; printed = rw c.end_state.ensures (unfit-feeds c.args.state (lent c.args.line.now c.args.parents.now c.args.table.now c.args.space.now) _ _ _ _ e refl) }
+pub returns-clause-printed : goal.returns-clause-printed
+returns-clause-printed c =
+    let b = lent_by c.args.workspace.now in
+    let away = unfit c.args.state b _ (elim c.else-is_numbered.branch [
+      | goal.else-is_numbered-via-then-is_numbered+else-is_fit w ↦ inr (sym w.is_fit.ensures ∙ w.if-is_fit.false)
+      | goal.else-is_numbered-via-else-is_numbered w ↦ inl (sym c.is_numbered.ensures ∙ w.if-is_numbered.false)
+    ]) in
+    rw c.end.ensures (unfit-feeds c.args.state b b _ _ _ away refl)

@@ -1,27 +1,21 @@
 -- `whole_lines::count_line` meets its contract. Assumes nothing.
-use mathlib.Core.Path.{◌≡◌, refl, sym, ap, ◌∙◌}
-use Prim.Native.Nat.{◌-◌}
-use native.Mathlib.Omega.{arith}
-use Rattle.lines.specs.Results.{found_of}
+use Rattle.std.proofs.Common.{◌≡◌, ◌+◌, ◌-◌, arith}
+use Rattle.counter_stream.specs.Loans.{lent_by}
+use Rattle.counter_stream.proofs.Fitness.{count_fits}
 use Rattle.counter_stream.proofs.whole_lines.LineEnds.{count-bad, count-large, count-fine}
 use Rattle.counter_stream.proofs.whole_lines.count_line.Goals as goal
 
-pub returns-in_default : goal.returns-in_default
-returns-in_default c =
-    let f = c.read_count in
-    rw c.ends.ensures (count-bad _ 2 _ _ _ (ap found_of (sym c.in_default.is) ∙ f.ensures) c.bad_line.ensures.1)
+pub returns-in_default-clause-turned : goal.returns-in_default-clause-turned
+returns-in_default-clause-turned c =
+    rw c.last.ensures (count-bad c.args.state (lent_by c.args.workspace.now) _ _ _ _ c.requires.phase c.in_default.ensures c.bad_line.ensures)
 
-pub returns-then-count-gt-MOST_LISTED : goal.returns-then-count-gt-MOST_LISTED
-returns-then-count-gt-MOST_LISTED c =
-    let f = c.read_count in
-    rw c.ends-then-count-gt-MOST_LISTED.ensures (count-large _ 2 _ _ _ _ (ap found_of (sym c.in-Number.is) ∙ f.ensures) c.if-count-gt-MOST_LISTED.true c.bad_line-then-count-gt-MOST_LISTED.ensures.1)
+pub returns-then-count-gt-MOST_LISTED-clause-turned : goal.returns-then-count-gt-MOST_LISTED-clause-turned
+returns-then-count-gt-MOST_LISTED-clause-turned c =
+    rw c.last-then-count-gt-MOST_LISTED.ensures
+    (count-large c.args.state (lent_by c.args.workspace.now) _ _ _ _ c.requires.phase _ c.in-Some.ensures c.if-count-gt-MOST_LISTED.true c.bad_line-then-count-gt-MOST_LISTED.ensures)
 
-pub list_so_far-requires : goal.list_so_far-requires
-list_so_far-requires c = record { phase = refl; fresh = refl; read = omega arith; few = omega arith; room = c.requires }
-
-pub returns : goal.returns
-returns c =
-    let f = c.read_count in
-    let n = c.in-Number.count in
-    let z : n - 0 ≡ n = omega arith in
-    count-fine _ 2 _ _ _ n _ (ap found_of (sym c.in-Number.is) ∙ f.ensures) (omega (arith, c.if-count-gt-MOST_LISTED.false)) (rw z at c.list_so_far.ensures)
+pub returns-clause-turned : goal.returns-clause-turned
+returns-clause-turned c =
+    let y : c.args.state.line + 1 ≡ 2 = omega (arith, count_fits _ _ c.requires.phase c.requires.due.fits) in
+    let z : c.in-Some.count - 0 ≡ c.in-Some.count = omega arith in
+    rw y (count-fine c.args.state (lent_by c.args.workspace.now) _ _ _ _ c.requires.phase _ _ c.in-Some.ensures (omega (arith, c.if-count-gt-MOST_LISTED.false)) (rw z at c.list_so_far.ensures.turned))

@@ -1,28 +1,15 @@
 -- `whole_lines::parent_line` meets its contract. Assumes nothing.
-use mathlib.Core.Path.{refl, sym, ap, ◌∙◌}
-use native.Mathlib.Omega.{arith}
-use lib.ListN.{length-set}
-use Rattle.lines.specs.Results.{found_of}
+use Rattle.std.proofs.Common.{arith}
+use Rattle.counter_stream.specs.Loans.{lent_by}
+use Rattle.counter_stream.proofs.Fitness.{parent-fits}
 use Rattle.counter_stream.proofs.whole_lines.LineEnds.{parent-bad, parent-fine}
 use Rattle.counter_stream.proofs.whole_lines.parent_line.Goals as goal
 
-pub returns-in_default : goal.returns-in_default
-returns-in_default c =
-    let f = c.read_parent in
-    rw c.ends.ensures (parent-bad _ _ _ _ _ _ _ _ (ap found_of (sym c.in_default.is) ∙ f.ensures) c.bad_line.ensures.1)
+pub returns-in_default-clause-turned : goal.returns-in_default-clause-turned
+returns-in_default-clause-turned c =
+    rw c.last.ensures (parent-bad c.args.state (lent_by c.args.workspace.now) _ _ _ _ c.requires.phase c.in_default.ensures c.bad_line.ensures)
 
-pub list_so_far-requires : goal.list_so_far-requires
-list_so_far-requires c =
-    let room = c.requires.3 in
-    record {
-      phase = refl;
-      fresh = refl;
-      read = omega (arith, c.requires.0);
-      few = c.requires.1;
-      room = record { listed = omega (arith, room.listed, length-set c.args.parents.now c.args.state.filled c.in-Number.parent); laid = room.laid; worked = room.worked };
-    }
-
-pub returns : goal.returns
-returns c =
-    let f = c.read_parent in
-    parent-fine _ c.args.state _ _ _ _ _ (ap found_of (sym c.in-Number.is) ∙ f.ensures) (omega (arith, c.requires.0, c.requires.1, c.requires.3.listed)) c.list_so_far.ensures
+pub returns-clause-turned : goal.returns-clause-turned
+returns-clause-turned c =
+    let f = parent-fits _ _ c.requires.phase c.requires.due.fits in
+    parent-fine c.args.state (lent_by c.args.workspace.now) _ _ _ _ c.requires.phase _ _ c.in-Some.ensures (omega (arith, f.0, f.1, c.requires.due.room.listed)) c.list_so_far.ensures.turned

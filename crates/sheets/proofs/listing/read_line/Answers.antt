@@ -1,9 +1,8 @@
 -- `listing::read_line` meets its contract. Assumes nothing.
-use mathlib.Core.Path.{sym, ◌∙◌, subst, ap}
+use mathlib.Core.Path.{sym, ◌∙◌, ap}
 use mathlib.Core.Bool.{not}
 use native.Mathlib.Omega.{arith}
 use Rattle.bands.proofs.Tests.{band-says, class-says}
-use Rattle.lines.specs.Results.{BandAt}
 use Rattle.sheets.proofs.listing.Turns.{read_past, read-other, read-bad, read-good}
 use Rattle.sheets.proofs.listing.read_line.Goals as goal
 
@@ -11,11 +10,11 @@ pub returns-then-k-ge-MOST_LINES : goal.returns-then-k-ge-MOST_LINES
 returns-then-k-ge-MOST_LINES c = read_past _ _ _ _ _ (omega arith)
 
 pub returns-in_default : goal.returns-in_default
-returns-in_default c = read-other _ _ _ _ _ (omega arith) (subst (BandAt _ _) c.in_default.is c.read_band.ensures)
+returns-in_default c = read-other _ _ _ _ _ (omega arith) c.in_default.ensures
 
 pub returns-then-not-is_band : goal.returns-then-not-is_band
 returns-then-not-is_band c =
-    read-bad _ _ _ _ _ (omega arith) _ _ (subst (BandAt _ _) c.in-Band.is c.read_band.ensures) c.is_band.result c.is_band.ensures (ap not c.if-not-is_band.true)
+    read-bad _ _ _ _ _ (omega arith) _ _ c.in-Some.ensures c.is_band.result c.is_band.ensures (ap not c.if-not-is_band.true)
 
 pub lay-requires : goal.lay-requires
 lay-requires c =
@@ -26,6 +25,6 @@ lay-requires c =
 pub returns : goal.returns
 returns c = (
   _,
-  read-good _ _ _ _ _ (omega arith) _ _ (subst (BandAt _ _) c.in-Band.is c.read_band.ensures) c.is_band.result c.is_band.ensures (ap not c.if-not-is_band.false),
+  read-good _ _ _ _ _ (omega arith) _ _ c.in-Some.ensures c.is_band.result c.is_band.ensures (ap not c.if-not-is_band.false),
   c.lay.ensures,
 )
