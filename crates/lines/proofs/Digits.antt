@@ -14,8 +14,8 @@ use borrow.Author.Tests.{le-leb, lt-leb}
 use Rattle.std.specs.Prelude.{Result, Ok, Err}
 use Rattle.std.specs.Result.{OkIff, result_ok}
 use Rattle.base.specs.Lists.{every}
+use Rattle.base.specs.Options.{option_of}
 use Rattle.lines.specs.Fields.{is_digit, most_number, value, is_number, number}
-use Rattle.lines.specs.Results.{found_of}
 
 -- one digit more
 pub value-more : (acc : ℕ) (l : List ℕ) (b : ℕ) → value acc (l ++ (b ∷ [])) ≡ 10 * value acc l + (b - 48)
@@ -150,7 +150,7 @@ module _ (field : List ℕ) where
         rw (le-leb 1 (length field) any, le-leb (length field) 10 few, sym (ap (every is_digit) whole) ∙ p.all, le-leb (value 0 field) most_number (omega (arith, e))) (ap some e)
 
     -- what the conversion to 32 bits makes of the value
-    pub read-converted : {E : Type 0} (r : Result ℕ E) → OkIff r (v < 4294967296) v → found_of (result_ok r) ≡ number field
+    pub read-converted : {E : Type 0} (r : Result ℕ E) → OkIff r (v < 4294967296) v → option_of (result_ok r) ≡ number field
     read-converted (Ok x) k = ap some k.1 ∙ read_whole (omega arith)
     read-converted (Err e) k = read-great (omega arith)
 

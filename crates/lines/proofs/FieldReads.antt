@@ -8,8 +8,9 @@ use lib.ListN.{length, get_or, take, drop, length-drop}
 use lib.Seq.{get_or-drop}
 use Rattle.std.specs.Prelude.{Result, Some, None}
 use Rattle.std.specs.Result.{OkIff, result_ok}
+use Rattle.base.specs.Options.{option_of}
 use Rattle.lines.specs.Fields.{is_digit, number}
-use Rattle.lines.specs.Results.{found_of, NextByte, part, ReadTo, NoneTo}
+use Rattle.lines.specs.Results.{NextByte, part, ReadTo, NoneTo}
 use Rattle.lines.proofs.Digits.{Valued, valued-none, valued-more, valued_fits, valued-front, read-empty, read-long, read-other, read-converted}
 use Rattle.lines.proofs.Searches.{Free, free-none, free_more, free-next, free-least, next-same}
 use Rattle.lines.proofs.Cuts.{part_length, part-byte}
@@ -78,14 +79,14 @@ module _ (text rest : List ℕ) (end at : ℕ) where
 
         -- and its value is converted to 32 bits
         module _ {E : Type 0} (any : d ≡ 0 → ⊥) (r : Result ℕ E) (k : OkIff r (v < 4294967296) v) where
-          converted : found_of (result_ok r) ≡ number (part at (at + d) text)
+          converted : option_of (result_ok r) ≡ number (part at (at + d) text)
           converted =
               let z : at + d - at ≡ d = omega arith in
               let whole : part at (at + d) text ≡ take d rest = ap (λ j. take j (drop at text)) z ∙ ap (take d) (sym e) in
               read-converted (part at (at + d) text) d v (omega (arith, long)) (omega (arith, long, p.few)) (omega (arith, long)) (rw whole (valued-front rest d v p.valued)) r k
 
           pub run-great : None ≡ result_ok r → NoneTo number text end at
-          run-great q m next w = rw (same m next w) (ap found_of q ∙ converted)
+          run-great q m next w = rw (same m next w) (ap option_of q ∙ converted)
 
           pub run-read : (x : ℕ) → Some x ≡ result_ok r → ReadTo number text end at x (at + d + 1)
-          run-read x q = record { end = at + d; found = ended; within = within; says = ap found_of q ∙ converted; behind = refl }
+          run-read x q = record { end = at + d; found = ended; within = within; says = ap option_of q ∙ converted; behind = refl }

@@ -8,11 +8,6 @@ use Rattle.lines.specs.declared.reading.Question.{Question as Asked}
 use Rattle.lines.specs.declared.band_lines.Band.{Band}
 use Rattle.std.specs.declared.option.Option as found
 
--- the number that was read, or none
-abbrev pub found_of : found.Option ℕ → Option ℕ
-found_of (Some x) = some x
-found_of None = none
-
 -- the question that was read, or none
 abbrev pub asked_of : found.Option Asked → Option Question
 asked_of (Some q) = some (record { entry = q.entry.0; depth = q.depth })

@@ -6,7 +6,7 @@ use crate::reading::MOST_DIGITS;
 use base::Node;
 
 // The band that a line states: a class, its first amount and its last, and their rate.
-#[derive(Clone, Copy)]
+#[derive(Clone, Copy, PartialEq, Eq)]
 pub struct Band {
     pub class: Node,
     pub from: u32,

@@ -1,7 +1,8 @@
 // What a line says.
 ghost use Rattle.std.specs.Prelude.{◌≡◌};
+ghost use Rattle.base.specs.Options.{option_of};
 ghost use Rattle.lines.specs.Fields.{number, count_of, parent_of, question_of};
-ghost use Rattle.lines.specs.Results.{found_of, asked_of};
+ghost use Rattle.lines.specs.Results.{asked_of};
 
 use base::Node;
 use base::limits::TOP_MARK;
@@ -10,7 +11,7 @@ use base::limits::TOP_MARK;
 pub(crate) const MOST_DIGITS: usize = 10;
 
 // A question: the class of an entry at a depth.
-#[derive(Clone, Copy)]
+#[derive(Clone, Copy, PartialEq, Eq)]
 pub struct Question {
     pub entry: Node,
     pub depth: u32,
@@ -18,14 +19,14 @@ pub struct Question {
 
 // `N,count`, or none.
 pub fn read_count(line: &[u8]) -> Option<u32>
-    ensures { found_of result ≡ count_of line.now }
+    ensures { option_of result ≡ count_of line.now }
 {
     read_number(line.strip_prefix(b"N,")?)
 }
 
 // `P,parent`, or `P,-` for the top.
 pub fn read_parent(line: &[u8]) -> Option<u32>
-    ensures { found_of result ≡ parent_of line.now }
+    ensures { option_of result ≡ parent_of line.now }
 {
     let field = line.strip_prefix(b"P,")?;
     if field == b"-".as_slice() {
@@ -47,7 +48,7 @@ pub fn read_question(line: &[u8]) -> Option<Question>
 
 // A field of one to ten digits, at most 4,294,967,295.
 pub fn read_number(field: &[u8]) -> Option<u32>
-    ensures { found_of result ≡ number field.now }
+    ensures { option_of result ≡ number field.now }
 {
     if field.is_empty() || MOST_DIGITS < field.len() {
         return None;

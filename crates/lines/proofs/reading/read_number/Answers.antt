@@ -1,7 +1,7 @@
 -- `reading::read_number` meets its contract: the loop has read the digits before b. Assumes nothing.
 use Rattle.std.proofs.Common.{ap, ◌∙◌, arith}
 use Rattle.std.proofs.lemmas.Bool.Decides.{nat_tests}
-use Rattle.lines.specs.Results.{found_of}
+use Rattle.base.specs.Options.{option_of}
 use Rattle.lines.proofs.Digits.{valued-none, valued-more, valued_fits, digit-other, read-empty, read-long, read-other, read-converted}
 use Rattle.lines.proofs.reading.read_number.Goals as goal
 
@@ -29,4 +29,4 @@ loop-b-preserved c =
 pub returns : goal.returns
 returns c =
     let l = c.loop-b in
-    ap found_of c.ok.ensures.value ∙ read-converted _ l.b-index l.value (grind (arith, nat_tests)) (omega arith) c.loop-b-test.false l.invariant _ c.try_from.ensures
+    ap option_of c.ok.ensures.value ∙ read-converted _ l.b-index l.value (grind (arith, nat_tests)) (omega arith) c.loop-b-test.false l.invariant _ c.try_from.ensures

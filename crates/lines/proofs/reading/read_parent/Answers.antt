@@ -3,12 +3,12 @@ use Rattle.std.proofs.Common.{sym, ap, ◌∙◌}
 use Rattle.std.proofs.lemmas.Bool.{false≢true}
 use Rattle.std.proofs.lemmas.Bool.Decides.{Decides-eqb}
 use Rattle.std.proofs.lemmas.Slice.Eq.{slice_eq-Decides}
-use Rattle.lines.specs.Results.{found_of}
+use Rattle.base.specs.Options.{option_of}
 use Rattle.lines.proofs.LineFields.{parent-none, parent-top, parent-read}
 use Rattle.lines.proofs.reading.read_parent.Goals as goal
 
 pub returns-in_err-field : goal.returns-in_err-field
-returns-in_err-field c = ap found_of c.from_residual.ensures ∙ parent-none _ c.in_err-field.ensures.cases
+returns-in_err-field c = ap option_of c.from_residual.ensures ∙ parent-none _ c.in_err-field.ensures.cases
 
 pub returns-then-eq : goal.returns-then-eq
 returns-then-eq c =
