@@ -13,7 +13,8 @@ pub enum Phase {
     AtEnd,
 }
 
-// The phase, the next line's number, the entries announced and those read, and how many bytes of an unfinished line are held.
+// The phase, the next line's number, the entries announced and those read, and how many bytes of an unfinished line are held: in buffers that the
+// caller lends to each call, of which `Fed` speaks apart from the state.
 #[derive(Clone, Copy, PartialEq, Eq)]
 pub struct State {
     pub phase: Phase,
@@ -50,6 +51,7 @@ impl State {
         }
     }
 
+    // Whether nothing more is read or printed.
     pub fn is_at_end(self) -> bool
         ensures { result ≡ is_end self.phase }
     {
