@@ -16,4 +16,4 @@ returns-clause-printed c =
       | goal.else-is_numbered-via-then-is_numbered+else-is_fit w ↦ inr (sym w.is_fit.ensures ∙ w.if-is_fit.false)
       | goal.else-is_numbered-via-else-is_numbered w ↦ inl (sym c.is_numbered.ensures ∙ w.if-is_numbered.false)
     ]) in
-    rw c.end.ensures (unfit-feeds c.args.state b b _ _ _ away refl)
+    rw c.end.ensures (unfit-feeds c.args.state b _ _ _ _ away refl)
