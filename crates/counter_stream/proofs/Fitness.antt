@@ -58,9 +58,6 @@ module _ (st : State) (b : Lent) where
       go false = refl
 
   module _ (room : has_room b ≡ true) (few : st.held ≤ most_bytes) where
-    pub held-within : st.held ≤ length b.line
-    held-within = omega (arith, (room_of b room).line)
-
     pub no_phase : phase_fits st.phase st ≡ false → false ≡ fits st b
     unfolding fits
     no_phase e = rw (room, le-leb st.held most_bytes few, e)

@@ -31,10 +31,6 @@ module _ (text rest : List ℕ) (end at : ℕ) where
     pub run_fits : d < 10 → 10 * v + 9 < 10000000000
     run_fits h = valued_fits rest d v h p.valued
 
-    -- no byte ends the field before the end of the text
-    pub run-cut : length rest ≤ d → NoneTo number text end at
-    run-cut h m next w = absurd (omega (arith, free-least text end at (at + d) p.free m next w, ap length e, length-drop at text))
-
     module _ (h : d < length rest) where
       within : at + d < length text
       within = omega (arith, ap length e, length-drop at text)
