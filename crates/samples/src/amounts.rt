@@ -9,30 +9,29 @@ pub const MOST_SUM: usize = 2000000000;
 pub const MOST_RATE: usize = 1000000;
 
 // The signed number, or the least that there is where the size is more than one has.
+#[tactic(auto, unfolding(crate::specs::Amounts::signed_of))]
 pub fn signed(negative: bool, size: usize) -> i64
     ensures { result ≡ signed_of negative size }
 {
-    if 9223372036854775807 < size {
-        return -9223372036854775807 - 1;
+    match i64::try_from(size) {
+        Ok(x) => { if negative { -x } else { x } }
+        Err(_) => i64::MIN,
     }
-    let x = size as i64;
-    if negative { 0 - x } else { x }
 }
 
 // Size times rate, 0 where either is over its limit.
+#[tactic(auto, unfolding(crate::specs::Amounts::parts_of))]
 pub fn product(size: usize, rate: usize) -> usize
     ensures { result ≡ parts_of size rate }
 {
-    if MOST_SUM < size {
-        return 0;
-    }
-    if MOST_RATE < rate {
+    if MOST_SUM < size || MOST_RATE < rate {
         return 0;
     }
     size * rate
 }
 
 // The nearest number of cents, a half up: twice the parts and one cent, by twice a cent's parts.
+#[tactic(auto, unfolding(crate::specs::Amounts::cents_of))]
 pub fn cents(parts: usize) -> usize
     ensures { result ≡ cents_of parts }
 {

@@ -3,10 +3,9 @@ ghost use Rattle.std.specs.Prelude.{◌≡◌, ◌≤◌};
 ghost use Rattle.samples.specs.Cases.{count_of, room, Lengths};
 
 use crate::codings::{any_coded, any_list, grown_coded, grown_list};
-use crate::damage::{NONE, damage};
-use crate::lists::{make, permute};
+use crate::damage::{Fault, damage};
+use crate::lists::{Kind, make, permute};
 use crate::seeds::{next, pick};
-use crate::words::{add, less, times};
 
 pub const LINES: usize = 16;
 
@@ -35,10 +34,8 @@ pub struct Case {
 fn size_at(k: usize) -> usize
     ensures { result ≤ 512 }
 {
-    if k < 40 {
-        return k + 1;
-    }
     match k {
+        0..=39 => k + 1,
         40 => 64,
         41 => 100,
         42 => 127,
@@ -56,30 +53,29 @@ fn size_at(k: usize) -> usize
 }
 
 // How many lists a line has. There are 53 sizes: four lists of each for a kind, and one of each kind for a fault or a length.
+#[tactic(auto, unfolding(crate::specs::Cases::count_of))]
 pub fn count_at(line: usize) -> usize
     ensures { result ≡ count_of line }
 {
-    if line < KINDS {
-        return 212;
+    match line {
+        ANY => 1440,
+        GROWN => 11828,
+        _ if line < KINDS => 212,
+        _ => 371,
     }
-    if line == ANY {
-        return 1440;
-    }
-    if line == GROWN {
-        return 11828;
-    }
-    371
 }
 
 // Permutes the numbers of a list where k is odd.
-fn number(n: usize, k: usize, seed: usize, parents: &mut [u32]) {
+fn number(n: usize, k: usize, seed: usize, parents: &mut [u32])
+    requires { n ≤ 512 }
+{
     if k % 2 == 1 {
         permute(n, next(seed), parents);
     }
 }
 
 // A list of a kind, and of a size by its number. Answers its length.
-fn kind_list(kind: usize, size: usize, k: usize, seed: usize, parents: &mut [u32]) -> usize
+fn kind_list(kind: Kind, size: usize, k: usize, seed: usize, parents: &mut [u32]) -> usize
     ensures { result ≤ 512 }
 {
     let n = size_at(size);
@@ -92,7 +88,7 @@ fn any_at(k: usize, parents: &mut [u32]) -> usize
     ensures { result ≤ 512 }
 {
     let c = any_coded(k);
-    any_list(c.n, c.code, parents);
+    any_list(c, parents);
     c.n
 }
 
@@ -100,7 +96,7 @@ fn grown_at(k: usize, seed: usize, parents: &mut [u32]) -> usize
     ensures { result ≤ 512 }
 {
     let c = grown_coded(k / 2);
-    grown_list(c.n, c.code, parents);
+    grown_list(c, parents);
     number(c.n, k, seed, parents);
     c.n
 }
@@ -109,16 +105,12 @@ fn grown_at(k: usize, seed: usize, parents: &mut [u32]) -> usize
 fn list_at(line: usize, k: usize, seed: usize, parents: &mut [u32]) -> usize
     ensures { result ≤ 512 }
 {
-    if line < KINDS {
-        return kind_list(line, k / 4, k, seed, parents);
+    match line {
+        ANY => any_at(k, parents),
+        GROWN => grown_at(k, seed, parents),
+        _ if line < KINDS => kind_list(Kind::from(line), k / 4, k, seed, parents),
+        _ => kind_list(Kind::from(k % 7), k / 7, k, seed, parents),
     }
-    if line == ANY {
-        return any_at(k, parents);
-    }
-    if line == GROWN {
-        return grown_at(k, seed, parents);
-    }
-    kind_list(k % 7, k / 7, k, seed, parents)
 }
 
 // W, of a list of up to 512 entries.
@@ -139,46 +131,39 @@ fn lengths(line: usize, n: usize, seed: usize) -> Case
     let table = words + spare;
     let space = 6 * n + spare;
     let missing = pick(seed, n) + 1;
-    if line == EMPTY {
-        return Case { n: 0, table, space };
-    }
-    if line == TABLE {
-        return Case {
+    match line {
+        EMPTY => Case { n: 0, table, space },
+        TABLE => Case {
             n,
-            table: less(words, missing),
-            space: less(space, pick(next(seed), 3)),
-        };
-    }
-    if line == SPACE {
-        return Case {
+            table: words.saturating_sub(missing),
+            space: space.saturating_sub(pick(next(seed), 3)),
+        },
+        SPACE => Case {
             n,
             table,
-            space: less(6 * n, missing),
-        };
+            space: (6 * n).saturating_sub(missing),
+        },
+        _ => Case { n, table, space },
     }
-    Case { n, table, space }
 }
 
-// The fault of a line's k-th list, for `damage`. Where a length is too short, the fault is not to be seen.
-fn fault_at(line: usize, k: usize) -> usize {
-    if line < KINDS {
-        return NONE;
+// The fault of a line's k-th list. Where a length is too short, the fault is not to be seen.
+fn fault_at(line: usize, k: usize) -> Option<Fault> {
+    match line {
+        7..=10 => Fault::at(line - KINDS),
+        EMPTY | TABLE | SPACE => Fault::at(k % 5),
+        _ => None,
     }
-    if line < EMPTY {
-        return less(line, KINDS);
-    }
-    if line < ANY {
-        return k % 5;
-    }
-    NONE
 }
 
 // The k-th case of a line, with its list in `parents`.
 pub fn case_at(line: usize, k: usize, parents: &mut [u32]) -> Case
     ensures { Lengths line result }
 {
-    let seed = next(next(add(k, times(10000, line))));
+    let seed = next(next(k.wrapping_add(line.wrapping_mul(10000))));
     let n = list_at(line, k, seed, parents);
-    damage(fault_at(line, k), n, seed, parents);
+    if let Some(fault) = fault_at(line, k) {
+        damage(fault, n, seed, parents);
+    }
     lengths(line, n, seed)
 }

@@ -4,31 +4,29 @@ ghost use Rattle.samples.specs.Climbing.{word_above, ToTop};
 
 use crate::words::{TOP, get};
 
-// The climbs from v to the top, or n where v never meets it.
+// The climbs from v to the top, or n where v never meets it: `ToTop` has that number in place of an Option.
+#[tactic(auto, unfolding(crate::specs::Climbing::word_above))]
 pub fn climbs(parents: &[u32], n: usize, v: usize) -> usize
     ensures { ToTop parents.now n v result }
 {
     let mut at = v;
-    let mut k = 0;
-    while k < n {
+    for k in 0..n {
         at = get(parents, at);
         if at == TOP {
             return k;
         }
-        k += 1;
     }
     n
 }
 
 // The entry k above v.
+#[tactic(auto, unfolding(crate::specs::Climbing::word_above))]
 pub fn above(parents: &[u32], v: usize, k: usize) -> usize
     ensures { result ≡ word_above parents.now v k }
 {
     let mut at = v;
-    let mut i = 0;
-    while i < k {
+    for i in 0..k {
         at = get(parents, at);
-        i += 1;
     }
     at
 }

@@ -1,20 +1,36 @@
 // Lists that do not form one tree.
 use crate::climbing::{above, climbs};
 use crate::seeds::{next, pick};
-use crate::words::{TOP, add, less, put};
+use crate::words::{TOP, put};
 
-pub(crate) const NONE: usize = 4;
+#[derive(Clone, Copy)]
+pub(crate) enum Fault {
+    Stray,
+    Tops,
+    Topless,
+    Looped,
+}
+
+impl Fault {
+    // The four faults in the order of their lines; none behind them.
+    pub(crate) fn at(k: usize) -> Option<Fault> {
+        match k {
+            0 => Some(Fault::Stray),
+            1 => Some(Fault::Tops),
+            2 => Some(Fault::Topless),
+            3 => Some(Fault::Looped),
+            _ => None,
+        }
+    }
+}
 
 // A word that is neither an entry nor the top mark: n, the highest such word, or one between.
 fn stray_word(n: usize, seed: usize) -> usize {
-    let which = pick(seed, 3);
-    if which == 0 {
-        return n;
+    match pick(seed, 3) {
+        0 => n,
+        1 => TOP - 1,
+        _ => n.wrapping_add(pick(seed, 1000000)),
     }
-    if which == 1 {
-        return less(TOP, 1);
-    }
-    add(n, pick(seed, 1000000))
 }
 
 fn second_top(n: usize, seed: usize, parents: &mut [u32]) {
@@ -52,13 +68,12 @@ fn looped(n: usize, seed: usize, parents: &mut [u32]) {
     put(parents, u, v);
 }
 
-// A fault of one of four kinds, or none.
-pub(crate) fn damage(fault: usize, n: usize, seed: usize, parents: &mut [u32]) {
+// A list gets a fault.
+pub(crate) fn damage(fault: Fault, n: usize, seed: usize, parents: &mut [u32]) {
     match fault {
-        0 => stray(n, seed, parents),
-        1 => tops(n, seed, parents),
-        2 => topless(n, seed, parents),
-        3 => looped(n, seed, parents),
-        _ => {}
+        Fault::Stray => stray(n, seed, parents),
+        Fault::Tops => tops(n, seed, parents),
+        Fault::Topless => topless(n, seed, parents),
+        Fault::Looped => looped(n, seed, parents),
     }
 }

@@ -2,25 +2,21 @@
 ghost use Rattle.std.specs.Prelude.{◌≡◌, ◌≤◌, length, drop};
 ghost use Rattle.samples.specs.Fields.{behind_commas, to_comma};
 
-use crate::words::less;
-
 // The place behind so many commas from a place on, or the end.
 fn behind(text: &[u8], start: usize, commas: usize) -> usize
     requires { start ≤ length text.now }
     ensures { (start ≤ result) × (result ≤ length text.now) × (drop result text.now ≡ behind_commas commas (drop start text.now)) }
 {
     let mut left = commas;
-    let mut i = start;
-    while i < text.len() {
+    for i in start..text.len() {
         if left == 0 {
             return i;
         }
         if text[i] == b',' {
-            left = less(left, 1);
+            left -= 1;
         }
-        i += 1;
     }
-    i
+    text.len()
 }
 
 // The k-th field, from 0, with its comma.

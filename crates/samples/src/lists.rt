@@ -1,119 +1,103 @@
 // Parent lists: entry 0 is the top and a parent has a lower number than its child, until the numbers are permuted.
+ghost use Rattle.std.specs.Prelude.{◌≤◌};
+
 use crate::seeds::{next, pick};
-use crate::words::{TOP, add, get, least, less, put};
+use crate::words::{TOP, get, put};
 
-const CHAIN: usize = 0;
-
-const STAR: usize = 1;
-
-const RANDOM: usize = 2;
-
-const CATERPILLAR: usize = 3;
-
-const BINARY: usize = 4;
-
-const BROOM: usize = 5;
-
-// A chain of half the entries, and the rest below its end.
-fn broom(i: usize, n: usize) -> usize {
-    let end = less(n / 2, 1);
-    least(less(i, 1), end)
+// The kinds of lists, by what the parent of an entry is.
+#[derive(Clone, Copy)]
+pub(crate) enum Kind {
+    Chain,
+    Star,
+    Random,
+    Caterpillar,
+    Binary,
+    Broom,
+    // one of the three entries before
+    Deep,
 }
 
-// The parent of entry i, over 0, in a list of n entries of a kind: of any other kind it is one of the last three entries, for a deep list.
-fn parent(kind: usize, i: usize, n: usize, seed: usize) -> usize {
-    let last = less(i, 1);
-    if kind == CHAIN {
-        return last;
+impl From<usize> for Kind {
+    // The kinds in the order of the lines; any line behind them is of the last.
+    fn from(line: usize) -> Kind {
+        match line {
+            0 => Kind::Chain,
+            1 => Kind::Star,
+            2 => Kind::Random,
+            3 => Kind::Caterpillar,
+            4 => Kind::Binary,
+            5 => Kind::Broom,
+            _ => Kind::Deep,
+        }
     }
-    if kind == STAR {
-        return 0;
+}
+
+// The parent of entry i, over 0, in a list of n entries of a kind. A broom is a chain of half the entries, with the rest below its end.
+fn parent(kind: Kind, i: usize, n: usize, seed: usize) -> usize {
+    let last = i.saturating_sub(1);
+    match kind {
+        Kind::Chain => last,
+        Kind::Star => 0,
+        Kind::Random => pick(seed, i),
+        Kind::Caterpillar => last.saturating_sub(i.wrapping_add(1) % 2),
+        Kind::Binary => last / 2,
+        Kind::Broom => last.min((n / 2).saturating_sub(1)),
+        Kind::Deep => last.saturating_sub(pick(seed, 3)),
     }
-    if kind == RANDOM {
-        return pick(seed, i);
-    }
-    if kind == CATERPILLAR {
-        return less(last, add(i, 1) % 2);
-    }
-    if kind == BINARY {
-        return last / 2;
-    }
-    if kind == BROOM {
-        return broom(i, n);
-    }
-    less(last, pick(seed, 3))
 }
 
 // A list of n entries of a kind.
-pub(crate) fn make(kind: usize, n: usize, seed: usize, parents: &mut [u32]) {
+pub(crate) fn make(kind: Kind, n: usize, seed: usize, parents: &mut [u32]) {
     put(parents, 0, TOP);
     let mut s = seed;
-    let mut i = 1;
-    while i < n {
+    for i in 1..n {
         s = next(s);
         put(parents, i, parent(kind, i, n, s));
-        i += 1;
     }
 }
 
-// The words of two places, exchanged.
-fn exchange(a: &mut [u32], i: usize, j: usize) {
-    let x = get(a, i);
-    put(a, i, get(a, j));
-    put(a, j, x);
-}
-
-// The numbers below n, in increasing order.
-fn count_up(n: usize, names: &mut [u32]) {
-    let mut i = 0;
-    while i < n {
+// The numbers of the places, in increasing order.
+fn count_up(names: &mut [u32]) {
+    for i in 0..names.len() {
         put(names, i, i);
-        i += 1;
     }
 }
 
-// The numbers below n, in an order that the seed gives.
-fn shuffle(n: usize, seed: usize, names: &mut [u32]) {
-    count_up(n, names);
+// The numbers of the places, in an order that the seed gives.
+fn shuffle(seed: usize, names: &mut [u32]) {
+    count_up(names);
     let mut s = seed;
-    let mut i = 0;
-    while i < n {
+    for i in 0..names.len() {
         s = next(s);
-        exchange(names, i, pick(s, add(i, 1)));
-        i += 1;
+        names.swap(i, pick(s, i + 1));
     }
 }
 
 // The name of an entry; the top mark stays.
 fn named(names: &[u32], p: usize) -> usize {
-    if p == TOP {
-        return TOP;
-    }
-    get(names, p)
+    if p == TOP { TOP } else { get(names, p) }
 }
 
 // A list with each entry i called names[i].
-fn rename(n: usize, parents: &[u32], names: &[u32], renamed: &mut [u32]) {
-    let mut i = 0;
-    while i < n {
-        put(renamed, get(names, i), named(names, get(parents, i)));
-        i += 1;
+fn rename(parents: &[u32], names: &[u32], renamed: &mut [u32]) {
+    for (name, parent) in names.iter().zip(parents) {
+        put(renamed, *name as usize, named(names, *parent as usize));
     }
 }
 
-pub(crate) fn copy(n: usize, from: &[u32], to: &mut [u32]) {
-    let mut i = 0;
-    while i < n {
-        put(to, i, get(from, i));
-        i += 1;
+fn copy(from: &[u32], to: &mut [u32]) {
+    for (word, new) in to.iter_mut().zip(from) {
+        *word = *new;
     }
 }
 
 // Permutes the numbers of a list.
-pub(crate) fn permute(n: usize, seed: usize, parents: &mut [u32]) {
+pub(crate) fn permute(n: usize, seed: usize, parents: &mut [u32])
+    requires { n ≤ 512 }
+{
     let mut names = [0u32; 512];
     let mut renamed = [0u32; 512];
-    shuffle(n, seed, &mut names);
-    rename(n, parents, &names, &mut renamed);
-    copy(n, &renamed, parents);
+    shuffle(seed, &mut names[..n]);
+    rename(parents, &names[..n], &mut renamed);
+    copy(&renamed[..n], parents);
 }

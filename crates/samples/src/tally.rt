@@ -1,8 +1,6 @@
 // How many questions were asked, and how many answers differ.
 ghost use Rattle.std.specs.Prelude.{◌≡◌, ◌+◌, ◌%◌, ◌^◌};
 
-use crate::words::add;
-
 #[derive(Clone, Copy)]
 pub struct Tally {
     pub asked: usize,
@@ -41,8 +39,8 @@ impl Tally {
         ensures { result ≡ record { asked = (self.asked + other.asked) % 2 ^ 64; differences = (self.differences + other.differences) % 2 ^ 64 } }
     {
         Tally {
-            asked: add(self.asked, other.asked),
-            differences: add(self.differences, other.differences),
+            asked: self.asked.wrapping_add(other.asked),
+            differences: self.differences.wrapping_add(other.differences),
         }
     }
 }

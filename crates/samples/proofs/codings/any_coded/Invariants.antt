@@ -1,9 +1,0 @@
--- `codings::any_coded` meets its contract. Assumes nothing.
-use Rattle.std.proofs.Common.{◌-◌}
-use Rattle.samples.proofs.codings.any_coded.Given as goal
-
-abbrev pub invariant-loop-n : goal.invariant-loop-n
-invariant-loop-n l = Unit {0}
-
-abbrev pub decreases-loop-n : goal.decreases-loop-n
-decreases-loop-n l = 5 - l.n
