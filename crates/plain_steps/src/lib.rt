@@ -2,14 +2,17 @@
 // shares no code with them.
 #![tactic(auto)]
 
+mod cells;
 mod local;
-mod power;
+mod refusal;
 mod relation;
 mod steps;
 mod strings;
+mod table;
 mod walking;
 
 pub use relation::{ancestry, branch};
-pub use steps::{climb, entries, level, rating};
+pub use steps::{climb, level, rating};
 pub use strings::shape_strings;
+pub use table::entries;
 pub use walking::Walk;

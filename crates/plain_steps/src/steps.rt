@@ -1,211 +1,154 @@
 // The level lookup, step by step.
 ghost use Rattle.std.specs.Prelude.{◌+◌, ◌<◌, ◌≤◌};
 
-use crate::local::{NONE, local_ancestor, local_depth};
-use crate::power::largest;
+use crate::cells::Cells;
+use crate::local::{local_ancestor, local_depth};
+use crate::refusal::Refusal;
+use crate::table::{Table, below};
 use crate::walking::Walk;
-use samples::words::{get, wide};
+use samples::words::get;
 
 // From here on a KIND is that of a micro entry.
 const MICRO: usize = 2147483648;
 
-// Cell 0 of no entries.
-const HEADER: usize = 1073741824;
+impl<'a> Table<'a> {
+    // The end of step 4: from w, with so many climbs still missing.
+    fn land(&self, w: usize, missing: usize, cells: &mut Cells) -> Result<usize, Refusal>
+        requires { w < self.now.n }
+        ensures { cells.new.count ≤ cells.old.count + 2 }
+    {
+        let place = self.read(4 + 2 * self.n + w, cells);
+        let index = place.checked_sub(missing).ok_or(Refusal::Broken)?;
+        let rung = below(index, 2 * self.n)?;
+        below(self.read(4 + 6 * self.n + rung, cells), self.n)
+    }
 
-// Step 1: cell 0, if there are 4 words.
-pub(crate) fn opened(table: &[u32], walk: Walk) -> Walk
-    ensures { result.count ≤ walk.count + 1 }
-{
-    if table.len() < 4 {
-        return walk;
+    // Step 4 from a jump entry, by its number.
+    fn jump(&self, number: usize, d: usize, cells: &mut Cells) -> Result<usize, Refusal>
+        ensures { cells.new.count ≤ cells.old.count + 4 }
+    {
+        let j = below(number, self.n / 8)?;
+        let first = 4 + 11 * self.n + 21 * j;
+        let depth = below(self.read(first, cells), self.n)?;
+        if depth <= d {
+            return Err(Refusal::Broken);
+        }
+        let far = depth - d;
+        let leap = far.ilog2();
+        let w = below(self.read(first + 1 + leap as usize, cells), self.n)?;
+        self.land(w, far - (1 << leap), cells)
     }
-    walk.read(table, 0)
-}
 
-// Step 1: the number of entries, 0 where the table is broken.
-pub fn entries(table: &[u32]) -> usize
-    ensures { result ≤ 1048576 }
-{
-    if table.len() < 4 {
-        return 0;
+    // Step 3 where the climb ends in the group: ORDER at the group's position plus a local number.
+    fn in_group(&self, first: usize, local: usize, cells: &mut Cells) -> Result<usize, Refusal>
+        requires { (first < 4294967296) × (local < 8) }
+        ensures { cells.new.count ≤ cells.old.count + 2 }
+    {
+        let index = below(self.read(first, cells) + local, self.n)?;
+        below(self.read(4 + 3 * self.n + index, cells), self.n)
     }
-    let word = get(table, 0);
-    if word < HEADER {
-        return 0;
-    }
-    let n = word - HEADER;
-    if 1048576 < n {
-        return 0;
-    }
-    if table.len() < 4 + 11 * n + 21 * (n / 8) {
-        return 0;
-    }
-    n
-}
 
-// The end of step 4: from w, with so many climbs still missing.
-fn land(table: &[u32], n: usize, w: usize, missing: usize, walk: Walk) -> Walk
-    requires { (n ≤ 1048576) × (w < n) }
-    ensures { result.count ≤ walk.count + 2 }
-{
-    let place = walk.read(table, 4 + 2 * n + w);
-    let ladpos = place.word;
-    if ladpos < missing {
-        return place.broken();
+    // Step 3 where it does not: the group's parent, at the depth `above`.
+    fn over_group(
+        &self,
+        first: usize,
+        above: usize,
+        d: usize,
+        cells: &mut Cells,
+    ) -> Result<usize, Refusal>
+        requires { first < 4294967296 }
+        ensures { cells.new.count ≤ cells.old.count + 6 }
+    {
+        let p = below(self.read(first + 2, cells), self.n)?;
+        if above == d {
+            return Ok(p);
+        }
+        let kind = self.read(4 + self.n + p, cells);
+        self.jump(below(kind, MICRO)?, d, cells)
     }
-    let index = ladpos - missing;
-    if 2 * n <= index {
-        return place.broken();
-    }
-    place.read(table, 4 + 6 * n + index).settle(n)
-}
 
-// Step 4 from a jump entry, whose number was read last.
-fn jump(table: &[u32], n: usize, d: usize, walk: Walk) -> Walk
-    requires { n ≤ 1048576 }
-    ensures { result.count ≤ walk.count + 4 }
-{
-    let j = walk.word;
-    if n / 8 <= j {
-        return walk.broken();
+    // Step 3 from a micro entry of a depth, by the rest of its KIND.
+    fn group(
+        &self,
+        strings: &[u32],
+        rest: usize,
+        depth: usize,
+        d: usize,
+        cells: &mut Cells,
+    ) -> Result<usize, Refusal>
+        requires { d < depth }
+        ensures { cells.new.count ≤ cells.old.count + 7 }
+    {
+        let g = below(rest / 8, self.n)?;
+        let local = rest % 8;
+        let first = 4 + 8 * self.n + 3 * g;
+        let shape = below(self.read(first + 1, cells), 197)?;
+        let string = get(strings, shape);
+        let k = local_depth(string, local).ok_or(Refusal::Broken)?;
+        let far = depth - d;
+        if far <= k {
+            let reached = local_ancestor(string, local, k - far);
+            return self.in_group(first, reached, cells);
+        }
+        self.over_group(first, depth - k - 1, d, cells)
     }
-    let first = 4 + 11 * n + 21 * j;
-    let deep = walk.read(table, first);
-    let depth = deep.word;
-    if n <= depth {
-        return deep.broken();
-    }
-    if depth <= d {
-        return deep.broken();
-    }
-    let far = depth - d;
-    let leap = largest(far);
-    let above = deep.read(table, first + 1 + leap.exponent);
-    let w = above.word;
-    if n <= w {
-        return above.broken();
-    }
-    land(table, n, w, far - leap.value, above)
-}
-
-// Step 3 where the climb ends in the group: ORDER at the group's position plus a local number.
-fn in_group(table: &[u32], n: usize, first: usize, local: usize, walk: Walk) -> Walk
-    requires { (n ≤ 1048576) × (first < 4294967296) × (local < 8) }
-    ensures { result.count ≤ walk.count + 2 }
-{
-    let group = walk.read(table, first);
-    let index = group.word + local;
-    if n <= index {
-        return group.broken();
-    }
-    group.read(table, 4 + 3 * n + index).settle(n)
-}
-
-// Step 3 where it does not: the group's parent, k + 1 above v.
-fn over_group(table: &[u32], n: usize, first: usize, above: usize, d: usize, walk: Walk) -> Walk
-    requires { (n ≤ 1048576) × (first < 4294967296) }
-    ensures { result.count ≤ walk.count + 6 }
-{
-    let over = walk.read(table, first + 2);
-    let p = over.word;
-    if n <= p {
-        return over.broken();
-    }
-    if above == d {
-        return over.end(0, p);
-    }
-    let kind = over.read(table, 4 + n + p);
-    if MICRO <= kind.word {
-        return kind.broken();
-    }
-    jump(table, n, d, kind)
-}
-
-// Step 3 from a micro entry of a depth, whose KIND was read last.
-fn group(table: &[u32], strings: &[u32], n: usize, depth: usize, d: usize, walk: Walk) -> Walk
-    requires { (n ≤ 1048576) × (d < depth) × (2147483648 ≤ walk.word) × (walk.word < 4294967296) }
-    ensures { result.count ≤ walk.count + 7 }
-{
-    let x = walk.word - MICRO;
-    let g = x / 8;
-    let local = x % 8;
-    if n <= g {
-        return walk.broken();
-    }
-    let first = 4 + 8 * n + 3 * g;
-    let shaped = walk.read(table, first + 1);
-    let shape = shaped.word;
-    if 197 <= shape {
-        return shaped.broken();
-    }
-    let string = get(strings, shape);
-    let k = local_depth(string, local);
-    if k == NONE {
-        return shaped.broken();
-    }
-    let far = depth - d;
-    if far <= k {
-        let reached = local_ancestor(string, local, k - far);
-        return in_group(table, n, first, reached, shaped);
-    }
-    over_group(table, n, first, depth - k - 1, d, shaped)
 }
 
 // Steps 1 to 4 for v and d, behind what was read before.
-pub(crate) fn look(table: &[u32], strings: &[u32], v: usize, d: usize, walk: Walk) -> Walk
-    ensures { result.count ≤ walk.count + 10 }
+pub(crate) fn look(
+    table: &[u32],
+    strings: &[u32],
+    v: usize,
+    d: usize,
+    cells: &mut Cells,
+) -> Result<usize, Refusal>
+    ensures { cells.new.count ≤ cells.old.count + 10 }
 {
-    let open = opened(table, walk);
-    let n = entries(table);
-    if n == 0 {
-        return open.broken();
-    }
-    if n <= v {
-        return open.end(7, v);
-    }
-    let deep = open.read(table, 4 + v);
-    let depth = deep.word;
-    if n <= depth {
-        return deep.broken();
-    }
+    let t = Table::open(table, cells)?;
+    let v = t.known(v)?;
+    let depth = below(t.read(4 + v, cells), t.n)?;
     if depth < d {
-        return deep.end(8, v);
+        return Err(Refusal::TooDeep(v));
     }
     if depth == d {
-        return deep.end(0, v);
+        return Ok(v);
     }
-    let kind = deep.read(table, 4 + n + v);
-    if MICRO <= kind.word {
-        return group(table, strings, n, depth, d, kind);
+    let kind = t.read(4 + t.n + v, cells);
+    match kind.checked_sub(MICRO) {
+        Some(rest) => t.group(strings, rest, depth, d, cells),
+        None => t.jump(kind, d, cells),
     }
-    jump(table, n, d, kind)
+}
+
+// The level lookup of v at depth d.
+fn walked(table: &[u32], strings: &[u32], v: usize, d: usize) -> Walk
+    ensures { result.count ≤ 10 }
+{
+    let mut cells = Cells::new();
+    let found = look(table, strings, v, d, &mut cells);
+    Walk::end(cells, found)
 }
 
 // The level lookup of v at depth d. `strings` has the shapes.
 pub fn level(table: &[u32], strings: &[u32], v: u32, d: u32) -> Walk
     ensures { result.count ≤ 10 }
 {
-    look(table, strings, wide(v), wide(d), Walk::new())
+    walked(table, strings, v as usize, d as usize)
 }
 
 // The rating lookup: the level lookup at the rating level, or at the entry's own depth where that is less.
 pub fn rating(table: &[u32], strings: &[u32], v: u32, d: u32) -> Walk
     ensures { result.count ≤ 10 }
 {
-    let depth = get(table, 4 + wide(v));
-    if depth < wide(d) {
-        return look(table, strings, wide(v), depth, Walk::new());
-    }
-    look(table, strings, wide(v), wide(d), Walk::new())
+    let depth = get(table, 4 + v as usize);
+    walked(table, strings, v as usize, depth.min(d as usize))
 }
 
 // Climbing k up from v: the level lookup at its depth less k, or, where k is more, at a depth that it does not have.
 pub fn climb(table: &[u32], strings: &[u32], v: u32, k: u32) -> Walk
     ensures { result.count ≤ 10 }
 {
-    let depth = get(table, 4 + wide(v));
-    if depth < wide(k) {
-        return look(table, strings, wide(v), depth + 1, Walk::new());
-    }
-    look(table, strings, wide(v), depth - wide(k), Walk::new())
+    let depth = get(table, 4 + v as usize);
+    let d = depth.checked_sub(k as usize).unwrap_or(depth + 1);
+    walked(table, strings, v as usize, d)
 }

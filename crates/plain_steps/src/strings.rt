@@ -3,23 +3,23 @@
 ghost use Rattle.std.specs.Prelude.{◌≡◌, true, false, ◌+◌, ◌<◌, set};
 ghost use Rattle.plain_steps.specs.Strings.{goes_round, strings};
 
-use samples::words::{add, less, put};
+use samples::words::put;
 
 // Whether a string goes round a group: from its last step back, each down ends an up, and none is left.
 fn goes_round(string: usize) -> bool
     requires { string < 8192 }
     ensures { result ≡ goes_round string }
 {
-    let mut open = 0;
+    let mut open: usize = 0;
     let mut rest = string;
     while 1 < rest {
         if rest % 2 == 1 {
-            open = add(open, 1);
+            open += 1;
         } else {
             if open == 0 {
                 return false;
             }
-            open = less(open, 1);
+            open -= 1;
         }
         rest = rest / 2;
     }
@@ -36,7 +36,7 @@ fn noted(string: usize, at: usize, all: &mut [u32]) -> usize
         return at;
     }
     put(all, at, string);
-    add(at, 1)
+    at + 1
 }
 
 // The strings of the 197 shapes of up to seven entries, in the order of the shapes' numbers.
@@ -45,10 +45,8 @@ pub fn shape_strings() -> [u32; 197]
 {
     let mut all = [0u32; 197];
     let mut at = 0;
-    let mut string = 1;
-    while string < 8192 {
+    for string in 1..8192 {
         at = noted(string, at, &mut all);
-        string += 1;
     }
     all
 }

@@ -1,17 +1,18 @@
--- `Walk::same` meets its contract: each test that says no ends the comparison. Assumes nothing.
-use mathlib.Core.Bool.{false≢true}
-use native.Mathlib.Omega.{arith}
+-- `Walk::same` meets its contract: arrays are equal just where each of their places is. Assumes nothing.
+use Rattle.std.proofs.Common.{List, ℕ, get_or, arith, ap}
+use Rattle.std.proofs.lemmas.Slice.Eq.{slice_eq-Decides}
+use Rattle.std.proofs.lemmas.Bool.Decides.{Decides-eqb}
+use Rattle.std.proofs.lemmas.Grind.{same_number_lists}
 use Rattle.plain_steps.proofs.walking.Walk.same.Goals as goal
-
-pub returns-then-self-wide : goal.returns-then-self-wide
-returns-then-self-wide c = (λ e. absurd (false≢true e), λ s. absurd (c.if-self-wide.true (omega arith)))
-
-pub returns-then-self-wide-2 : goal.returns-then-self-wide-2
-returns-then-self-wide-2 c = (λ e. absurd (false≢true e), λ s. absurd (c.if-self-wide-2.true (omega arith)))
-
-pub returns-then-self-wide-3 : goal.returns-then-self-wide-3
-returns-then-self-wide-3 c = (λ e. absurd (false≢true e), λ s. absurd (c.if-self-wide-3.true (omega arith)))
 
 pub returns : goal.returns
 returns c =
-    (λ e. record { number = omega arith; word = omega arith; count = omega arith; cells = c.same_cells.ensures.0 e }, λ s. c.same_cells.ensures.1 s.cells)
+    let d = slice_eq-Decides Decides-eqb c.args.self.cells c.args.cells c.eq.result c.eq.ensures in (
+      λ e. record {
+        number = omega arith;
+        word = omega arith;
+        count = omega arith;
+        cells = λ i h. ap (λ (l : List ℕ). get_or l i 0) (d.0 e);
+      },
+      λ s. d.1 (same_number_lists _ _ (omega arith) (λ i h. s.cells i (omega arith))),
+    )
