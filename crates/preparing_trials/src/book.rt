@@ -1,28 +1,58 @@
-// What is known of each entry of a list of up to 512, by number, and lists of entries. One slice holds a part of 512 words for each.
-use samples::words::{add, get, put};
+// What is known of each entry of a list of up to 512 that forms one tree.
+ghost use Rattle.std.specs.Prelude.{◌≤◌, length};
 
-pub(crate) const DEPTH: usize = 0;
+use samples::words::{TOP, get};
 
-pub(crate) const SIZE: usize = 512;
-
-pub(crate) const HEIGHT: usize = 1024;
-// how far behind its parent an entry comes in preorder
-pub(crate) const OFFSET: usize = 1536;
-
-pub(crate) const PRE: usize = 2048;
-// the entry at each position
-pub(crate) const ORDER: usize = 2560;
-// the child to which the long path continues, or the top mark
-pub(crate) const LONG: usize = 3072;
-// the roots of the groups, and the jump entries, in preorder
-pub(crate) const ROOTS: usize = 3584;
-
-pub(crate) const JUMPS: usize = 4096;
-
-pub(crate) fn read(book: &[u32], part: usize, v: usize) -> usize {
-    get(book, add(part, v))
+// A word for each entry, by number, but `order`, which has the entry at each position.
+#[derive(Drop)]
+pub(crate) struct Book<'a> {
+    pub(crate) parents: &'a [u32],
+    pub(crate) depth: [u32; 512],
+    pub(crate) size: [u32; 512],
+    pub(crate) height: [u32; 512],
+    // how far behind its parent an entry comes in preorder
+    pub(crate) offset: [u32; 512],
+    pub(crate) pre: [u32; 512],
+    pub(crate) order: [u32; 512],
+    // the child to which the long path continues, or the top mark
+    pub(crate) long: [u32; 512],
+    ghost short: { length parents.now ≤ 512 },
 }
 
-pub(crate) fn write(book: &mut [u32], part: usize, v: usize, x: usize) {
-    put(book, add(part, v), x);
+// The entry of a word, where that is not the top mark.
+fn entry(word: usize) -> Option<usize> {
+    if word == TOP { None } else { Some(word) }
+}
+
+impl<'a> Book<'a> {
+    pub(crate) fn new(parents: &'a [u32]) -> Book<'a>
+        requires { length parents.now ≤ 512 }
+    {
+        Book {
+            parents,
+            depth: [0; 512],
+            size: [0; 512],
+            height: [0; 512],
+            offset: [0; 512],
+            pre: [0; 512],
+            order: [0; 512],
+            long: [0; 512],
+        }
+    }
+
+    pub(crate) fn parent(&self, v: usize) -> Option<usize> {
+        entry(get(self.parents, v))
+    }
+
+    // The child to which the long path continues.
+    pub(crate) fn long_child(&self, v: usize) -> Option<usize> {
+        entry(get(&self.long, v))
+    }
+
+    // Whether u is v or below it.
+    pub(crate) fn holds(&self, v: usize, u: usize) -> bool {
+        let first = get(&self.pre, v);
+        let i = get(&self.pre, u);
+        first <= i && i < first.wrapping_add(get(&self.size, v))
+    }
 }

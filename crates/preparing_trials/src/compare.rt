@@ -1,115 +1,69 @@
 // One call of preparing, against what it is to answer and to leave.
+ghost use Rattle.std.specs.Prelude.{◌≤◌, length};
+
 use crate::laid::lay;
-use crate::verdict::judge;
-use crate::words::{clear, fill};
-use samples::words::{add, get, times, wide};
+use crate::verdict::{Refusal, judge};
+use crate::words::{clear, soil};
+use samples::cases::case_at;
 
-#[derive(Clone, Copy)]
-struct Reply {
-    number: usize,
-    name: usize,
+// How many words of a slice differ from those of another.
+fn differences(given: &[u32], want: &[u32]) -> usize {
+    given.iter().zip(want).filter(|(a, b)| a != b).count()
 }
 
-fn differ(a: usize, b: usize) -> usize {
-    if a == b { 0 } else { 1 }
+// How much of an answer differs: its number and its name.
+fn unlike(number: u32, name: u32, want: Result<usize, Refusal>) -> usize {
+    let (other_number, other_name) = match want {
+        Ok(words) => (0, words),
+        Err(refusal) => (refusal.number(), refusal.name()),
+    };
+    usize::from(number as usize != other_number) + usize::from(name as usize != other_name)
 }
 
-// How many of the first n words of a slice differ from those of another.
-fn differences(a: &[u32], b: &[u32], n: usize) -> usize {
-    let mut count = 0;
-    let mut i = 0;
-    while i < n {
-        count = add(count, differ(get(a, i), get(b, i)));
-        i += 1;
+// How many words of the table are not what it is to hold after an answer.
+fn table_differences(parents: &[u32], answer: Result<usize, Refusal>, table: &[u32]) -> usize
+    requires { (length parents.now ≤ 512) × (length table.now ≤ 6999) }
+{
+    let mut words = [0u32; 6999];
+    let want = &mut words[..table.len()];
+    soil(want);
+    if answer.is_ok() {
+        lay(parents, want);
     }
-    count
+    differences(table, want)
 }
 
-// The call, with the first n words of the list and so many words of the table and of the space.
-fn prepared(
-    parents: &[u32],
-    n: usize,
-    table: &mut [u32],
-    t: usize,
-    space: &mut [u32],
-    s: usize,
-) -> Reply {
-    fill(table, add(t, 16));
-    fill(space, add(s, 16));
-    if n <= parents.len() {
-        if t <= table.len() {
-            if s <= space.len() {
-                let r = prepare::prepare(&parents[..n], &mut table[..t], &mut space[..s]);
-                return Reply {
-                    number: wide(r.number),
-                    name: wide(r.word),
-                };
-            }
-        }
+// How many words of the space are not what it is to hold after an answer.
+fn space_differences(n: usize, answer: Result<usize, Refusal>, space: &[u32]) -> usize
+    requires { length space.now ≤ 3091 }
+{
+    let mut words = [0u32; 3091];
+    let want = &mut words[..space.len()];
+    soil(want);
+    let clears = match answer {
+        Ok(_) => true,
+        Err(refusal) => refusal.clears(),
+    };
+    if clears {
+        clear(want, n.wrapping_mul(6));
     }
-    Reply {
-        number: 99,
-        name: 0,
-    }
+    differences(space, want)
 }
 
-// Whether an answer leaves zeros in the space.
-fn touched(number: usize) -> bool {
-    if number == 0 {
-        return true;
-    }
-    3 < number
-}
-
-// What the table is to hold after an answer, in so many cells.
-fn table_after(parents: &[u32], n: usize, cells: usize, number: usize, want: &mut [u32]) {
-    fill(want, cells);
-    if number == 0 {
-        lay(parents, n, want);
-    }
-}
-
-// What the space is to hold after an answer, in so many words.
-fn space_after(n: usize, words: usize, number: usize, want: &mut [u32]) {
-    fill(want, words);
-    if touched(number) {
-        clear(want, times(n, 6));
-    }
-}
-
-fn table_differences(
-    parents: &[u32],
-    n: usize,
-    cells: usize,
-    number: usize,
-    table: &[u32],
-) -> usize {
-    let mut want = [0u32; 7440];
-    table_after(parents, n, cells, number, &mut want);
-    differences(table, &want, cells)
-}
-
-fn space_differences(n: usize, words: usize, number: usize, space: &[u32]) -> usize {
-    let mut want = [0u32; 3091];
-    space_after(n, words, number, &mut want);
-    differences(space, &want, words)
-}
-
-// How much differs after a call with so many words of the table and of the space. Both are compared for 16 words beyond.
-pub(crate) fn trial(
-    parents: &[u32],
-    n: usize,
-    t: usize,
-    s: usize,
-    table: &mut [u32],
-    space: &mut [u32],
-) -> usize {
-    let reply = prepared(parents, n, table, t, space, s);
-    let v = judge(parents, n, t, s);
-    let said = add(differ(reply.number, v.number), differ(reply.name, v.name));
-    let laid = table_differences(parents, n, add(t, 16), v.number, table);
-    add(
-        add(said, laid),
-        space_differences(n, add(s, 16), v.number, space),
-    )
+// How much differs after the call of a line's k-th case. Table and space are compared for 16 words beyond.
+pub(crate) fn trial(line: usize, k: usize) -> usize {
+    let mut parents = [0u32; 512];
+    let mut table = [0u32; 6999];
+    let mut space = [0u32; 3091];
+    let case = case_at(line, k, &mut parents);
+    let list = &parents[..case.n];
+    let answer = judge(list, case.table, case.space);
+    let cells = &mut table[..case.table + 16];
+    let words = &mut space[..case.space + 16];
+    soil(cells);
+    soil(words);
+    let reply = prepare::prepare(list, &mut cells[..case.table], &mut words[..case.space]);
+    unlike(reply.number, reply.word, answer)
+        .wrapping_add(table_differences(list, answer, cells))
+        .wrapping_add(space_differences(case.n, answer, words))
 }

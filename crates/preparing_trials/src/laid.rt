@@ -1,62 +1,46 @@
 // The whole table of a list that forms one tree.
-use crate::book::{DEPTH, ORDER, PRE, SIZE, read};
-use crate::groups::{kinds, lay_groups, lay_jumps, list_jumps, list_roots};
-use crate::paths::{count_paths, ladders};
-use crate::plain::keep;
-use crate::words::{clear, start, table_words};
-use samples::words::{add, put};
+ghost use Rattle.std.specs.Prelude.{◌≤◌, length};
 
-// A part of the book into a section of n cells.
-fn section(book: &[u32], part: usize, n: usize, at: usize, want: &mut [u32]) {
-    let mut i = 0;
-    while i < n {
-        put(want, add(at, i), read(book, part, i));
-        i += 1;
+use crate::book::Book;
+use crate::groups::Entries;
+use crate::words::{clear, start, table_words};
+use samples::words::put;
+
+// A word for each entry into a section, which starts at a cell.
+fn section(words: &[u32], at: usize, want: &mut [u32]) {
+    for (i, word) in words.iter().enumerate() {
+        put(want, at.wrapping_add(i), *word as usize);
     }
 }
 
 // The sections that hold what the book has.
-fn sections(book: &[u32], n: usize, want: &mut [u32]) {
-    section(book, DEPTH, n, start(0, n), want);
-    section(book, ORDER, n, start(3, n), want);
-    section(book, PRE, n, start(4, n), want);
-    section(book, SIZE, n, start(5, n), want);
+fn sections(book: &Book, want: &mut [u32]) {
+    let n = book.parents.len();
+    section(&book.depth[..n], start(0, n), want);
+    section(&book.order[..n], start(3, n), want);
+    section(&book.pre[..n], start(4, n), want);
+    section(&book.size[..n], start(5, n), want);
 }
 
-// The other sections.
-fn others(parents: &[u32], book: &[u32], n: usize, groups: usize, jumps: usize, want: &mut [u32]) {
-    kinds(book, n, groups, jumps, want);
-    ladders(parents, book, n, want);
-    lay_groups(parents, book, n, groups, want);
-    lay_jumps(parents, book, n, jumps, want);
+// The other sections, and the header.
+fn others(book: &Book, roots: &[u32], jumps: &[u32], want: &mut [u32]) {
+    book.lay_kinds(roots, jumps, want);
+    book.lay_ladders(want);
+    book.lay_groups(roots, want);
+    book.lay_jumps(jumps, want);
+    put(want, 0, book.parents.len().wrapping_add(1073741824));
+    put(want, 1, jumps.len());
+    put(want, 2, roots.len());
+    put(want, 3, book.count_paths());
 }
 
-fn header(n: usize, jumps: usize, groups: usize, paths: usize, want: &mut [u32]) {
-    put(want, 0, add(1073741824, n));
-    put(want, 1, jumps);
-    put(want, 2, groups);
-    put(want, 3, paths);
-}
-
-// The table, from the book of the list.
-fn lay_from(
-    parents: &[u32],
-    n: usize,
-    groups: usize,
-    jumps: usize,
-    book: &[u32],
-    want: &mut [u32],
-) {
-    clear(want, table_words(n));
-    sections(book, n, want);
-    others(parents, book, n, groups, jumps, want);
-    header(n, jumps, groups, count_paths(parents, book, n), want);
-}
-
-pub(crate) fn lay(parents: &[u32], n: usize, want: &mut [u32]) {
-    let mut book = [0u32; 4608];
-    keep(parents, n, &mut book);
-    let groups = list_roots(parents, n, &mut book);
-    let jumps = list_jumps(parents, n, &mut book);
-    lay_from(parents, n, groups, jumps, &book, want);
+pub(crate) fn lay(parents: &[u32], want: &mut [u32])
+    requires { length parents.now ≤ 512 }
+{
+    let book = Book::of(parents);
+    let roots = Entries::of(&book, |v| book.is_root(v));
+    let jumps = Entries::of(&book, |v| book.is_jump(v));
+    clear(want, table_words(parents.len()));
+    sections(&book, want);
+    others(&book, roots.all(), jumps.all(), want);
 }

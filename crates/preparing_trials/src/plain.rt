@@ -1,123 +1,113 @@
 // Depth, size, height, preorder and long paths, each by its definition: by climbs from every entry.
-use crate::book::{DEPTH, HEIGHT, LONG, OFFSET, ORDER, PRE, SIZE, read, write};
+ghost use Rattle.std.specs.Prelude.{◌≤◌, length};
+
+use crate::book::Book;
 use samples::climbing::climbs;
-use samples::words::{TOP, add, get};
+use samples::words::{TOP, get, put};
 
-// Counts v in the entry `at`, k above it.
-fn count_in(book: &mut [u32], at: usize, k: usize) {
-    let size = add(read(book, SIZE, at), 1);
-    write(book, SIZE, at, size);
-    if read(book, HEIGHT, at) <= k {
-        write(book, HEIGHT, at, add(k, 1));
-    }
-}
-
-// Counts v in the size and the height of itself and of every entry above it.
-fn count_above(parents: &[u32], n: usize, v: usize, book: &mut [u32]) {
-    let mut at = v;
-    let mut k = 0;
-    while k < n {
-        count_in(book, at, k);
-        at = get(parents, at);
-        if at == TOP {
-            return;
+impl<'a> Book<'a> {
+    // Counts in the entry `at` one that is k below it.
+    fn count_in(&mut self, at: usize, k: usize) {
+        let size = get(&self.size, at);
+        put(&mut self.size, at, size.wrapping_add(1));
+        if get(&self.height, at) <= k {
+            put(&mut self.height, at, k.wrapping_add(1));
         }
-        k += 1;
     }
-}
 
-fn measure(parents: &[u32], n: usize, book: &mut [u32]) {
-    let mut v = 0;
-    while v < n {
-        write(book, DEPTH, v, climbs(parents, n, v));
-        count_above(parents, n, v, book);
-        v += 1;
-    }
-}
-
-// How far v comes behind its parent in preorder: its lower siblings and all below them come first.
-fn offset(parents: &[u32], v: usize, book: &[u32]) -> usize {
-    let p = get(parents, v);
-    if p == TOP {
-        return 0;
-    }
-    let mut sum = 1;
-    let mut u = 0;
-    while u < v {
-        if get(parents, u) == p {
-            sum = add(sum, read(book, SIZE, u));
-        }
-        u += 1;
-    }
-    sum
-}
-
-fn offsets(parents: &[u32], n: usize, book: &mut [u32]) {
-    let mut v = 0;
-    while v < n {
-        let far = offset(parents, v, book);
-        write(book, OFFSET, v, far);
-        v += 1;
-    }
-}
-
-// v's position: the offsets of itself and of every entry above it.
-fn place(parents: &[u32], n: usize, v: usize, book: &[u32]) -> usize {
-    let mut sum = 0;
-    let mut at = v;
-    let mut k = 0;
-    while k < n {
-        sum = add(sum, read(book, OFFSET, at));
-        at = get(parents, at);
-        if at == TOP {
-            return sum;
-        }
-        k += 1;
-    }
-    sum
-}
-
-fn places(parents: &[u32], n: usize, book: &mut [u32]) {
-    let mut v = 0;
-    while v < n {
-        let i = place(parents, n, v, book);
-        write(book, PRE, v, i);
-        write(book, ORDER, i, v);
-        v += 1;
-    }
-}
-
-// The child of greatest height, the lowest number on a tie, or the top mark.
-fn tallest(parents: &[u32], n: usize, v: usize, book: &[u32]) -> usize {
-    let mut best = TOP;
-    let mut most = 0;
-    let mut u = 0;
-    while u < n {
-        if get(parents, u) == v {
-            let h = read(book, HEIGHT, u);
-            if most < h {
-                most = h;
-                best = u;
+    // Counts v in the size and the height of itself and of every entry above it.
+    fn count_above(&mut self, v: usize) {
+        let mut at = v;
+        for k in 0..self.parents.len() {
+            self.count_in(at, k);
+            match self.parent(at) {
+                Some(p) => at = p,
+                None => return,
             }
         }
-        u += 1;
     }
-    best
-}
 
-fn long_children(parents: &[u32], n: usize, book: &mut [u32]) {
-    let mut v = 0;
-    while v < n {
-        let child = tallest(parents, n, v, book);
-        write(book, LONG, v, child);
-        v += 1;
+    fn measure(&mut self) {
+        let n = self.parents.len();
+        for v in 0..n {
+            put(&mut self.depth, v, climbs(self.parents, n, v));
+            self.count_above(v);
+        }
     }
-}
 
-// Fills the book of a list that forms one tree, from zeros.
-pub(crate) fn keep(parents: &[u32], n: usize, book: &mut [u32]) {
-    measure(parents, n, book);
-    offsets(parents, n, book);
-    places(parents, n, book);
-    long_children(parents, n, book);
+    // How far v comes behind its parent in preorder: its lower siblings and all below them come first.
+    fn far(&self, v: usize) -> usize {
+        let Some(p) = self.parent(v) else {
+            return 0;
+        };
+        let mut sum: usize = 1;
+        for u in 0..v {
+            if self.parent(u) == Some(p) {
+                sum = sum.wrapping_add(get(&self.size, u));
+            }
+        }
+        sum
+    }
+
+    fn offsets(&mut self) {
+        for v in 0..self.parents.len() {
+            let far = self.far(v);
+            put(&mut self.offset, v, far);
+        }
+    }
+
+    // v's position: the offsets of itself and of every entry above it.
+    fn place(&self, v: usize) -> usize {
+        let mut sum: usize = 0;
+        let mut at = v;
+        for _ in self.parents {
+            sum = sum.wrapping_add(get(&self.offset, at));
+            match self.parent(at) {
+                Some(p) => at = p,
+                None => return sum,
+            }
+        }
+        sum
+    }
+
+    fn places(&mut self) {
+        for v in 0..self.parents.len() {
+            let i = self.place(v);
+            put(&mut self.pre, v, i);
+            put(&mut self.order, i, v);
+        }
+    }
+
+    // The child of greatest height, the lowest number on a tie.
+    fn tallest(&self, v: usize) -> Option<usize> {
+        let mut best = None;
+        let mut most = 0;
+        for u in 0..self.parents.len() {
+            let height = get(&self.height, u);
+            if self.parent(u) == Some(v) && most < height {
+                most = height;
+                best = Some(u);
+            }
+        }
+        best
+    }
+
+    fn long_children(&mut self) {
+        for v in 0..self.parents.len() {
+            let child = self.tallest(v);
+            put(&mut self.long, v, child.unwrap_or(TOP));
+        }
+    }
+
+    // The book of a list that forms one tree.
+    pub(crate) fn of(parents: &'a [u32]) -> Book<'a>
+        requires { length parents.now ≤ 512 }
+    {
+        let mut book = Book::new(parents);
+        book.measure();
+        book.offsets();
+        book.places();
+        book.long_children();
+        book
+    }
 }

@@ -1,6 +1,5 @@
 // A line of the output: a name, the number of trials and the number of differences.
 use samples::fields::field;
-use samples::words::less;
 use std::io;
 
 fn name(rt: &impl Print, line: usize) -> io::Result<()> {
@@ -9,7 +8,7 @@ fn name(rt: &impl Print, line: usize) -> io::Result<()> {
         rt.write_all(field(names, line))
     } else {
         let names = b"empty,short table,short space,any,grown,total,";
-        rt.write_all(field(names, less(line, 11)))
+        rt.write_all(field(names, line.saturating_sub(11)))
     }
 }
 

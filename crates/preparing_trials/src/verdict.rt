@@ -1,90 +1,95 @@
 // What preparing is to answer.
 use crate::words::table_words;
 use samples::climbing::climbs;
-use samples::words::{TOP, add, get, times};
+use samples::words::TOP;
 
+// What a list is turned away for, with the entry that the answer names.
 #[derive(Clone, Copy)]
-pub(crate) struct Verdict {
-    pub(crate) number: usize,
-    pub(crate) name: usize,
+pub(crate) enum Refusal {
+    Empty,
+    ShortTable,
+    ShortSpace,
+    // the entry's word is neither an entry nor the top mark
+    Stray(usize),
+    // the second top, or the number of entries where there is none
+    Tops(usize),
+    // the climb of the entry never meets the top
+    Lost(usize),
 }
 
-// The lowest entry whose word is neither an entry nor the top mark, or n.
-fn stray(parents: &[u32], n: usize) -> usize {
-    let mut v = 0;
-    while v < n {
-        let p = get(parents, v);
-        if n <= p {
-            if p != TOP {
-                return v;
-            }
+impl Refusal {
+    pub(crate) fn number(self) -> usize {
+        match self {
+            Refusal::Empty => 1,
+            Refusal::ShortTable => 2,
+            Refusal::ShortSpace => 3,
+            Refusal::Stray(_) => 4,
+            Refusal::Tops(_) => 5,
+            Refusal::Lost(_) => 6,
         }
-        v += 1;
     }
-    n
-}
 
-// The lowest entry, from `first` on, with the top mark, or n.
-fn top_from(parents: &[u32], n: usize, first: usize) -> usize {
-    let mut v = first;
-    while v < n {
-        if get(parents, v) == TOP {
-            return v;
+    pub(crate) fn name(self) -> usize {
+        match self {
+            Refusal::Empty | Refusal::ShortTable | Refusal::ShortSpace => 0,
+            Refusal::Stray(v) | Refusal::Tops(v) | Refusal::Lost(v) => v,
         }
-        v += 1;
     }
-    n
-}
 
-// The lowest entry whose climb never meets the top, or n.
-fn lost(parents: &[u32], n: usize) -> usize {
-    let mut v = 0;
-    while v < n {
-        if climbs(parents, n, v) == n {
-            return v;
-        }
-        v += 1;
-    }
-    n
-}
-
-// 4 to 6, in that order.
-fn list_verdict(parents: &[u32], n: usize) -> Verdict {
-    let s = stray(parents, n);
-    if s < n {
-        return Verdict { number: 4, name: s };
-    }
-    let top = top_from(parents, n, 0);
-    if top == n {
-        return Verdict { number: 5, name: n };
-    }
-    let second = top_from(parents, n, add(top, 1));
-    if second < n {
-        return Verdict {
-            number: 5,
-            name: second,
-        };
-    }
-    let l = lost(parents, n);
-    if l < n {
-        return Verdict { number: 6, name: l };
-    }
-    Verdict {
-        number: 0,
-        name: table_words(n),
+    // Whether the space is left with zeros all the same.
+    pub(crate) fn clears(self) -> bool {
+        matches!(
+            self,
+            Refusal::Stray(_) | Refusal::Tops(_) | Refusal::Lost(_)
+        )
     }
 }
 
-// The answer to a list of n words with a table and a space of so many words.
-pub(crate) fn judge(parents: &[u32], n: usize, table: usize, space: usize) -> Verdict {
+fn is_top(word: &u32) -> bool {
+    *word as usize == TOP
+}
+
+// The lowest entry whose word is neither an entry nor the top mark.
+fn stray(parents: &[u32]) -> Option<usize> {
+    let n = parents.len();
+    parents.iter().position(|p| !is_top(p) && n <= *p as usize)
+}
+
+// The second entry with the top mark, or the number of entries where there is none at all.
+fn other_top(parents: &[u32]) -> Option<usize> {
+    let Some(top) = parents.iter().position(is_top) else {
+        return Some(parents.len());
+    };
+    (0..parents.len()).find(|v| top < *v && is_top(&parents[*v]))
+}
+
+// The lowest entry whose climb never meets the top.
+fn lost(parents: &[u32]) -> Option<usize> {
+    let n = parents.len();
+    (0..n).find(|v| climbs(parents, n, *v) == n)
+}
+
+// The answer to a list, with a table and a space of so many words.
+pub(crate) fn judge(parents: &[u32], table: usize, space: usize) -> Result<usize, Refusal> {
+    let n = parents.len();
+    let words = table_words(n);
     if n == 0 {
-        return Verdict { number: 1, name: 0 };
+        return Err(Refusal::Empty);
     }
-    if table < table_words(n) {
-        return Verdict { number: 2, name: 0 };
+    if table < words {
+        return Err(Refusal::ShortTable);
     }
-    if space < times(n, 6) {
-        return Verdict { number: 3, name: 0 };
+    if space < n.wrapping_mul(6) {
+        return Err(Refusal::ShortSpace);
     }
-    list_verdict(parents, n)
+    if let Some(v) = stray(parents) {
+        return Err(Refusal::Stray(v));
+    }
+    if let Some(v) = other_top(parents) {
+        return Err(Refusal::Tops(v));
+    }
+    if let Some(v) = lost(parents) {
+        return Err(Refusal::Lost(v));
+    }
+    Ok(words)
 }
