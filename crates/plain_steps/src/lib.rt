@@ -4,7 +4,6 @@
 
 mod cells;
 mod local;
-mod refusal;
 mod relation;
 mod steps;
 mod strings;

@@ -2,10 +2,10 @@
 ghost use Rattle.std.specs.Prelude.{◌+◌, ◌<◌, ◌≤◌};
 
 use crate::cells::Cells;
-use crate::refusal::Refusal;
 use crate::steps::look;
 use crate::table::{Table, below, entries};
 use crate::walking::Walk;
+use samples::refusals::Refusal;
 
 // Whether u is at or above v: PRE u ≤ PRE v < PRE u + SIZE u.
 fn related(table: &[u32], u: usize, v: usize, cells: &mut Cells) -> Result<bool, Refusal>

@@ -3,9 +3,9 @@ ghost use Rattle.std.specs.Prelude.{◌+◌, ◌<◌, ◌≤◌};
 
 use crate::cells::Cells;
 use crate::local::{local_ancestor, local_depth};
-use crate::refusal::Refusal;
 use crate::table::{Table, below};
 use crate::walking::Walk;
+use samples::refusals::Refusal;
 use samples::words::get;
 
 // From here on a KIND is that of a micro entry.

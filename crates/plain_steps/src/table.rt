@@ -2,7 +2,7 @@
 ghost use Rattle.std.specs.Prelude.{◌≡◌, ◌+◌, ◌<◌, ◌≤◌, IfSome, IfOk};
 
 use crate::cells::Cells;
-use crate::refusal::Refusal;
+use samples::refusals::Refusal;
 use samples::words::get;
 
 // Cell 0 of no entries.

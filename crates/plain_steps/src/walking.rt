@@ -3,7 +3,7 @@ ghost use Rattle.std.specs.Prelude.{◌≡◌, true};
 ghost use Rattle.plain_steps.specs.Same.{Same};
 
 use crate::cells::Cells;
-use crate::refusal::Refusal;
+use samples::refusals::{Refusal, numbers};
 
 // The number stands for a refusal, or 0 for none, as `Same` compares it with an answer's.
 #[derive(Clone, Copy)]
@@ -18,10 +18,7 @@ impl Walk {
     pub(crate) fn end(cells: Cells, found: Result<usize, Refusal>) -> Walk
         ensures { result.count ≡ cells.count }
     {
-        let (number, word) = match found {
-            Ok(word) => (0, word),
-            Err(refusal) => (refusal.number(), refusal.word()),
-        };
+        let (number, word) = numbers(found);
         let at = cells.at;
         Walk {
             number,

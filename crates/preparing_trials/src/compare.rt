@@ -2,9 +2,10 @@
 ghost use Rattle.std.specs.Prelude.{◌≤◌, length};
 
 use crate::laid::lay;
-use crate::verdict::{Refusal, judge};
+use crate::verdict::judge;
 use crate::words::{clear, soil};
 use samples::cases::case_at;
+use samples::refusals::{Refusal, numbers};
 
 // How many words of a slice differ from those of another.
 fn differences(given: &[u32], want: &[u32]) -> usize {
@@ -13,10 +14,7 @@ fn differences(given: &[u32], want: &[u32]) -> usize {
 
 // How much of an answer differs: its number and its name.
 fn unlike(number: u32, name: u32, want: Result<usize, Refusal>) -> usize {
-    let (other_number, other_name) = match want {
-        Ok(words) => (0, words),
-        Err(refusal) => (refusal.number(), refusal.name()),
-    };
+    let (other_number, other_name) = numbers(want);
     usize::from(number as usize != other_number) + usize::from(name as usize != other_name)
 }
 
@@ -33,6 +31,14 @@ fn table_differences(parents: &[u32], answer: Result<usize, Refusal>, table: &[u
     differences(table, want)
 }
 
+// Whether an answer leaves zeros in the space.
+fn clears(answer: Result<usize, Refusal>) -> bool {
+    matches!(
+        answer,
+        Ok(_) | Err(Refusal::Stray(_) | Refusal::Tops(_) | Refusal::Lost(_))
+    )
+}
+
 // How many words of the space are not what it is to hold after an answer.
 fn space_differences(n: usize, answer: Result<usize, Refusal>, space: &[u32]) -> usize
     requires { length space.now ≤ 3091 }
@@ -40,11 +46,7 @@ fn space_differences(n: usize, answer: Result<usize, Refusal>, space: &[u32]) ->
     let mut words = [0u32; 3091];
     let want = &mut words[..space.len()];
     soil(want);
-    let clears = match answer {
-        Ok(_) => true,
-        Err(refusal) => refusal.clears(),
-    };
-    if clears {
+    if clears(answer) {
         clear(want, n.wrapping_mul(6));
     }
     differences(space, want)

@@ -1,49 +1,8 @@
 // What preparing is to answer.
 use crate::words::table_words;
 use samples::climbing::climbs;
+use samples::refusals::Refusal;
 use samples::words::TOP;
-
-// What a list is turned away for, with the entry that the answer names.
-#[derive(Clone, Copy)]
-pub(crate) enum Refusal {
-    Empty,
-    ShortTable,
-    ShortSpace,
-    // the entry's word is neither an entry nor the top mark
-    Stray(usize),
-    // the second top, or the number of entries where there is none
-    Tops(usize),
-    // the climb of the entry never meets the top
-    Lost(usize),
-}
-
-impl Refusal {
-    pub(crate) fn number(self) -> usize {
-        match self {
-            Refusal::Empty => 1,
-            Refusal::ShortTable => 2,
-            Refusal::ShortSpace => 3,
-            Refusal::Stray(_) => 4,
-            Refusal::Tops(_) => 5,
-            Refusal::Lost(_) => 6,
-        }
-    }
-
-    pub(crate) fn name(self) -> usize {
-        match self {
-            Refusal::Empty | Refusal::ShortTable | Refusal::ShortSpace => 0,
-            Refusal::Stray(v) | Refusal::Tops(v) | Refusal::Lost(v) => v,
-        }
-    }
-
-    // Whether the space is left with zeros all the same.
-    pub(crate) fn clears(self) -> bool {
-        matches!(
-            self,
-            Refusal::Stray(_) | Refusal::Tops(_) | Refusal::Lost(_)
-        )
-    }
-}
 
 fn is_top(word: &u32) -> bool {
     *word as usize == TOP
@@ -74,7 +33,7 @@ pub(crate) fn judge(parents: &[u32], table: usize, space: usize) -> Result<usize
     let n = parents.len();
     let words = table_words(n);
     if n == 0 {
-        return Err(Refusal::Empty);
+        return Err(Refusal::NoEntries);
     }
     if table < words {
         return Err(Refusal::ShortTable);

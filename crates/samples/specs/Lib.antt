@@ -3,4 +3,5 @@ pub mod Amounts
 pub mod Cases
 pub mod Climbing
 pub mod Fields
+pub mod Refusals
 pub mod Words

@@ -8,6 +8,7 @@ mod codings;
 mod damage;
 pub mod fields;
 mod lists;
+pub mod refusals;
 pub mod seeds;
 pub mod tally;
 pub mod words;

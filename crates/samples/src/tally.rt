@@ -1,5 +1,5 @@
 // How many questions were asked, and how many answers differ.
-ghost use Rattle.std.specs.Prelude.{◌≡◌, ◌+◌, ◌%◌, ◌^◌};
+ghost use Rattle.std.specs.Prelude.{◌≡◌, ◌+◌, ◌%◌, ◌^◌, cond};
 
 #[derive(Clone, Copy)]
 pub struct Tally {
@@ -33,6 +33,13 @@ impl Tally {
             asked: 1,
             differences: 1,
         }
+    }
+
+    // One answer, that is as it is to be or not.
+    pub fn of(same: bool) -> Tally
+        ensures { result ≡ record { asked = 1; differences = cond same 0 1 } }
+    {
+        if same { Tally::right() } else { Tally::wrong() }
     }
 
     pub fn plus(self, other: Tally) -> Tally
