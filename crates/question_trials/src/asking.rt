@@ -1,88 +1,99 @@
-// One question to the engine, held to what it is to answer.
+// A table that is asked, and one question to the engine, held to what it is to answer.
 use answers::Answer;
 use base::Node;
 use plain_steps::Walk;
+use samples::refusals::{Refusal, numbers};
 use samples::tally::Tally;
-use samples::words::wide;
+use samples::words::{narrow, wide};
 
-pub(crate) const LEVEL: usize = 0;
+// What a question is to give.
+pub(crate) type Outcome = Result<usize, Refusal>;
 
-pub(crate) const CLIMB: usize = 1;
+// A table, the shapes' strings, and the list that the table is of.
+#[derive(Clone, Copy)]
+pub(crate) struct Trial<'a> {
+    pub(crate) table: &'a [u32],
+    pub(crate) strings: &'a [u32],
+    pub(crate) parents: &'a [u32],
+}
 
-pub(crate) const RATING: usize = 2;
+// What a question gives, and the printed steps, with the cells that it may list at most.
+#[derive(Clone, Copy)]
+pub(crate) struct Asked {
+    answer: Answer,
+    walk: Walk,
+    most: u32,
+}
 
-pub(crate) const ANCESTRY: usize = 3;
+impl Asked {
+    // Whether the answer is that of the printed steps, and lists no more cells than its question may.
+    fn is_walked(&self) -> bool {
+        let answer = self.answer;
+        let listed = answer.cells;
+        let cells = listed.at;
+        listed.count <= self.most
+            && self
+                .walk
+                .same(answer.number, answer.word, listed.count, cells)
+    }
 
-pub(crate) const BRANCH: usize = 4;
+    // Holds the answer to the printed steps.
+    pub(crate) fn compared(&self) -> Tally {
+        Tally::of(self.is_walked())
+    }
 
-// A question of two arguments.
-fn answer(table: &[u32], question: usize, a: u32, b: u32) -> Answer {
-    match question {
-        LEVEL => query::level(table, Node(a), b),
-        CLIMB => query::climb(table, Node(a), b),
-        RATING => query::rating(table, Node(a), b),
-        ANCESTRY => query::ancestry(table, Node(a), Node(b)),
-        _ => query::branch(table, Node(a), Node(b)),
+    // Holds it to them, and to what it is to give.
+    pub(crate) fn gives(&self, want: Outcome) -> Tally {
+        let (number, word) = numbers(want);
+        let answer = self.answer;
+        let same = wide(answer.number) == number && wide(answer.word) == word;
+        Tally::of(same && self.is_walked())
     }
 }
 
-// The same by the printed steps.
-fn walk(table: &[u32], strings: &[u32], question: usize, a: u32, b: u32) -> Walk {
-    match question {
-        CLIMB => plain_steps::climb(table, strings, a, b),
-        RATING => plain_steps::rating(table, strings, a, b),
-        ANCESTRY => plain_steps::ancestry(table, a, b),
-        BRANCH => plain_steps::branch(table, strings, a, b),
-        _ => plain_steps::level(table, strings, a, b),
+impl<'a> Trial<'a> {
+    pub(crate) fn level(&self, v: usize, d: usize) -> Asked {
+        let (v, d) = (narrow(v), narrow(d));
+        Asked {
+            answer: query::level(self.table, Node(v), d),
+            walk: plain_steps::level(self.table, self.strings, v, d),
+            most: 10,
+        }
     }
-}
 
-// Whether an answer is that of the printed steps, and lists no more cells than its question may.
-fn walked(given: Answer, walk: Walk, most: u32) -> bool {
-    let listed = given.cells;
-    let cells = listed.at;
-    if most < listed.count {
-        return false;
+    pub(crate) fn climb(&self, v: usize, k: usize) -> Asked {
+        let (v, k) = (narrow(v), narrow(k));
+        Asked {
+            answer: query::climb(self.table, Node(v), k),
+            walk: plain_steps::climb(self.table, self.strings, v, k),
+            most: 10,
+        }
     }
-    walk.same(given.number, given.word, listed.count, cells)
-}
 
-fn most(question: usize) -> u32 {
-    match question {
-        ANCESTRY => 4,
-        BRANCH => 15,
-        _ => 10,
+    pub(crate) fn rating(&self, v: usize, d: usize) -> Asked {
+        let (v, d) = (narrow(v), narrow(d));
+        Asked {
+            answer: query::rating(self.table, Node(v), d),
+            walk: plain_steps::rating(self.table, self.strings, v, d),
+            most: 10,
+        }
     }
-}
 
-// Asks a question, and holds its answer to the printed steps.
-pub(crate) fn compare(table: &[u32], strings: &[u32], question: usize, a: u32, b: u32) -> Tally {
-    let given = answer(table, question, a, b);
-    if walked(given, walk(table, strings, question, a, b), most(question)) {
-        return Tally::right();
+    pub(crate) fn ancestry(&self, u: usize, v: usize) -> Asked {
+        let (u, v) = (narrow(u), narrow(v));
+        Asked {
+            answer: query::ancestry(self.table, Node(u), Node(v)),
+            walk: plain_steps::ancestry(self.table, u, v),
+            most: 4,
+        }
     }
-    Tally::wrong()
-}
 
-// The same, where it is to give a number and a word.
-pub(crate) fn ask(
-    table: &[u32],
-    strings: &[u32],
-    question: usize,
-    a: u32,
-    b: u32,
-    number: usize,
-    word: usize,
-) -> Tally {
-    let given = answer(table, question, a, b);
-    if !walked(given, walk(table, strings, question, a, b), most(question)) {
-        return Tally::wrong();
+    pub(crate) fn branch(&self, u: usize, v: usize) -> Asked {
+        let (u, v) = (narrow(u), narrow(v));
+        Asked {
+            answer: query::branch(self.table, Node(u), Node(v)),
+            walk: plain_steps::branch(self.table, self.strings, u, v),
+            most: 15,
+        }
     }
-    if wide(given.number) != number {
-        return Tally::wrong();
-    }
-    if wide(given.word) != word {
-        return Tally::wrong();
-    }
-    Tally::right()
 }

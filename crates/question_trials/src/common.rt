@@ -1,25 +1,25 @@
 // The class that two entries share and the climbs between them, held to two plain climbs; on a damaged table to what turns the question away.
+use crate::asking::{Outcome, Trial};
 use base::{Node, Reply};
 use common_ancestors::{distance, nearest_common_ancestor};
 use plain_steps::entries;
+use samples::refusals::{Refusal, numbers};
 use samples::tally::Tally;
-use samples::words::{TOP, add, get, narrow, times, wide};
+use samples::words::{TOP, get, narrow};
 
-// How many climbs lead from v to u, or n where none do.
-pub(crate) fn apart(parents: &[u32], n: usize, u: usize, v: usize) -> usize {
+// How many climbs lead from v to u, where some do.
+pub(crate) fn apart(parents: &[u32], u: usize, v: usize) -> Option<usize> {
     let mut at = v;
-    let mut k = 0;
-    while k < n {
+    for k in 0..parents.len() {
         if at == u {
-            return k;
+            return Some(k);
         }
         if at == TOP {
-            return n;
+            return None;
         }
         at = get(parents, at);
-        k += 1;
     }
-    n
+    None
 }
 
 // An entry, and the climbs to it from both.
@@ -30,86 +30,76 @@ struct Shared {
 }
 
 // The first entry of u's climb that is on v's.
-fn first_shared(parents: &[u32], n: usize, u: usize, v: usize) -> Shared {
+fn first_shared(parents: &[u32], u: usize, v: usize) -> Option<Shared> {
     let mut at = u;
-    let mut j = 0;
-    while j < n {
-        let k = apart(parents, n, at, v);
-        if k < n {
-            return Shared {
-                class: at,
-                climbs: add(j, k),
-            };
+    for j in 0..parents.len() {
+        if let Some(k) = apart(parents, at, v) {
+            let climbs = j.wrapping_add(k);
+            return Some(Shared { class: at, climbs });
         }
         at = get(parents, at);
-        j += 1;
     }
-    Shared {
-        class: n,
-        climbs: n,
-    }
+    None
 }
 
-// Whether a reply has a number and a word.
-fn gives(reply: Reply, number: usize, word: usize) -> Tally {
-    if wide(reply.number) != number {
-        return Tally::wrong();
-    }
-    if wide(reply.word) != word {
-        return Tally::wrong();
-    }
-    Tally::right()
+// Whether a reply is what it is to be.
+fn gives(reply: Reply, want: Outcome) -> Tally {
+    let (number, word) = numbers(want);
+    Tally::of(reply.number as usize == number && reply.word as usize == word)
 }
 
-// Both questions, that are to give a number, and a word each.
-fn two(table: &[u32], u: usize, v: usize, number: usize, class: usize, climbs: usize) -> Tally {
-    let a = narrow(u);
-    let b = narrow(v);
-    let first = nearest_common_ancestor(table, Node(a), Node(b));
-    let second = distance(table, Node(a), Node(b));
-    gives(first, number, class).plus(gives(second, number, climbs))
-}
-
-// Both questions on a prepared table.
-pub(crate) fn common(table: &[u32], parents: &[u32], n: usize, u: usize, v: usize) -> Tally {
-    if n <= u {
-        return two(table, u, v, 7, u, u);
-    }
-    if n <= v {
-        return two(table, u, v, 7, v, v);
-    }
-    let found = first_shared(parents, n, u, v);
-    two(table, u, v, 0, found.class, found.climbs)
-}
-
-// A reply of 0 with less than a bound, or of 9.
+// A reply of less than a bound, or that the table is broken.
 fn within(reply: Reply, bound: usize) -> Tally {
     if reply.number != 0 {
-        return gives(reply, 9, 0);
+        return gives(reply, Err(Refusal::Broken));
     }
-    if bound <= wide(reply.word) {
-        return Tally::wrong();
-    }
-    Tally::right()
+    Tally::of((reply.word as usize) < bound)
 }
 
-// Both questions on a table of any contents: 9 where step 1 calls it broken, then 7 with the first argument that is no entry, else an entry and fewer climbs than
-// twice the entries, or 9.
-pub(crate) fn common_any(table: &[u32], u: usize, v: usize) -> Tally {
-    let n = entries(table);
-    if n == 0 {
-        return two(table, u, v, 9, 0, 0);
+impl<'a> Trial<'a> {
+    fn nearest(&self, u: usize, v: usize) -> Reply {
+        nearest_common_ancestor(self.table, Node(narrow(u)), Node(narrow(v)))
     }
-    if n <= u {
-        return two(table, u, v, 7, u, u);
+
+    fn distance(&self, u: usize, v: usize) -> Reply {
+        distance(self.table, Node(narrow(u)), Node(narrow(v)))
     }
-    if n <= v {
-        return two(table, u, v, 7, v, v);
+
+    // Both questions are refused.
+    fn refused(&self, u: usize, v: usize, refusal: Refusal) -> Tally {
+        gives(self.nearest(u, v), Err(refusal)).plus(gives(self.distance(u, v), Err(refusal)))
     }
-    let a = narrow(u);
-    let b = narrow(v);
-    within(nearest_common_ancestor(table, Node(a), Node(b)), n).plus(within(
-        distance(table, Node(a), Node(b)),
-        times(n, 2),
-    ))
+
+    // Both questions on a prepared table.
+    pub(crate) fn common(&self, u: usize, v: usize) -> Tally {
+        let n = self.parents.len();
+        if n <= u {
+            return self.refused(u, v, Refusal::Unknown(u));
+        }
+        if n <= v {
+            return self.refused(u, v, Refusal::Unknown(v));
+        }
+        match first_shared(self.parents, u, v) {
+            Some(shared) => gives(self.nearest(u, v), Ok(shared.class)).plus(gives(
+                self.distance(u, v),
+                Ok(shared.climbs),
+            )),
+            None => Tally::wrong().plus(Tally::wrong()),
+        }
+    }
+
+    // Both questions on a table of any contents: where step 1 calls it broken they are refused, then for the first argument that is no entry; else they give an
+    // entry and fewer climbs than twice the entries, or that the table is broken.
+    pub(crate) fn common_any(&self, u: usize, v: usize) -> Tally {
+        let Some(n) = entries(self.table) else {
+            return self.refused(u, v, Refusal::Broken);
+        };
+        if n <= u {
+            return self.refused(u, v, Refusal::Unknown(u));
+        }
+        if n <= v {
+            return self.refused(u, v, Refusal::Unknown(v));
+        }
+        within(self.nearest(u, v), n).plus(within(self.distance(u, v), n.wrapping_mul(2)))
+    }
 }

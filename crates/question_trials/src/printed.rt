@@ -1,7 +1,6 @@
 // A line of the output: a name, the number of questions and the number of differences.
 use samples::fields::field;
 use samples::tally::Tally;
-use samples::words::less;
 use std::io;
 
 fn name(rt: &impl Print, line: usize) -> io::Result<()> {
@@ -11,7 +10,7 @@ fn name(rt: &impl Print, line: usize) -> io::Result<()> {
     } else {
         let names =
             b"damaged chain,damaged star,damaged random,damaged caterpillar,damaged binary,damaged broom,damaged deep,total,";
-        rt.write_all(field(names, less(line, 9)))
+        rt.write_all(field(names, line.saturating_sub(9)))
     }
 }
 

@@ -4,6 +4,13 @@ ghost use Rattle.samples.specs.Words.{narrowed};
 
 pub const TOP: usize = 4294967295;
 
+// A word as a number: std has no `usize::from` of one, and a cast of a field or an element needs the range that a parameter has.
+pub fn wide(x: u32) -> usize
+    ensures { (result ≡ x) × (result ≤ 4294967295) }
+{
+    x as usize
+}
+
 // x as a word, or 0 where it is more than a word holds.
 #[tactic(auto, unfolding(crate::specs::Words::narrowed))]
 pub fn narrow(x: usize) -> u32
@@ -16,7 +23,7 @@ pub fn narrow(x: usize) -> u32
 pub fn get(a: &[u32], i: usize) -> usize
     ensures { (result ≡ slice_index a.now i) × (result ≤ 4294967295) }
 {
-    a.get(i).copied().unwrap_or(0) as usize
+    wide(a.get(i).copied().unwrap_or(0))
 }
 
 // The word at i becomes x, and nothing changes where there is none.
