@@ -2,6 +2,8 @@
 // program holds the engine to. It shares no code with it.
 #![tactic(auto)]
 
+mod bands;
+pub mod classes;
 pub mod judging;
 pub mod line_words;
 mod reading;

@@ -1,4 +1,4 @@
-// The lines of a sheet in words, four to a line: class, from, to and rate.
+// The lines of a sheet in words, four to a line: class, from, to and rate. `part` and `set_part` take a field by its number, as their clauses do.
 ghost use Rattle.std.specs.Prelude.{◌≡◌, ◌+◌, ◌*◌, ◌%◌, ◌≤◌, get_or, set};
 ghost use Rattle.samples.specs.Words.{narrowed};
 
