@@ -1,22 +1,21 @@
-// Faults of a sheet's lines: each spoils one thing, and answers the number of lines.
-use crate::kinds::{
-    ABOVE, BEHIND, DEPTH, FULL_FAULT, HIGH_RATE, HIGH_TO, INSIDE, MISSING, SHARED, THREE, TWO,
-    UNKNOWN,
-};
-use crate::laying::{drop_line, lay};
-use plain_sheets::line_words::{CLASS, FROM, RATE, TO, part, set_part};
+// Faults of a sheet's lines: each spoils one thing.
+use crate::kinds::Kind;
+use crate::laying::Lines;
+use plain_sheets::classes::Classes;
+use plain_sheets::line_words::{CLASS, FROM, RATE, TO};
 use samples::amounts::{MOST_RATE, MOST_SUM, drawn};
 use samples::climbing::climbs;
 use samples::seeds::{next, pick};
-use samples::words::{TOP, add, least, less};
+use samples::words::TOP;
 
 // A number from a to b: either end, or one between.
 fn between(a: usize, b: usize, seed: usize) -> usize {
+    let most = b.saturating_sub(a);
     match pick(seed, 4) {
         0 => a,
         1 => b,
-        2 => add(a, least(pick(next(seed), 100), less(b, a))),
-        _ => add(a, least(drawn(next(seed)), less(b, a))),
+        2 => a.wrapping_add(pick(next(seed), 100).min(most)),
+        _ => a.wrapping_add(drawn(next(seed)).min(most)),
     }
 }
 
@@ -24,160 +23,122 @@ fn between(a: usize, b: usize, seed: usize) -> usize {
 fn over(limit: usize, seed: usize) -> usize {
     match pick(seed, 3) {
         0 => TOP,
-        1 => add(limit, 1),
-        _ => least(TOP, add(limit, add(1, drawn(next(seed))))),
+        1 => limit.wrapping_add(1),
+        _ => TOP.min(limit.wrapping_add(drawn(next(seed)).wrapping_add(1))),
     }
-}
-
-// A line loses its first amount or its last; a line of one amount goes.
-fn missing(lines: &mut [u32], m: usize, seed: usize) -> usize {
-    let j = pick(seed, m);
-    let from = part(lines, j, FROM);
-    let to = part(lines, j, TO);
-    if from == to {
-        return drop_line(lines, m, j);
-    }
-    if pick(next(seed), 2) == 0 {
-        set_part(lines, j, FROM, add(from, 1));
-    } else {
-        set_part(lines, j, TO, less(to, 1));
-    }
-    m
-}
-
-// A band more of a line's class, from x to y.
-fn more(lines: &mut [u32], m: usize, j: usize, x: usize, y: usize) -> usize {
-    let class = part(lines, j, CLASS);
-    lay(lines, m, class, x, y, 77);
-    add(m, 1)
-}
-
-// A line gets the amount behind its last; or an amount of it a line of its own.
-fn shared(lines: &mut [u32], m: usize, seed: usize) -> usize {
-    let j = pick(seed, m);
-    let to = part(lines, j, TO);
-    if pick(next(seed), 2) == 0 {
-        if to < MOST_SUM {
-            set_part(lines, j, TO, add(to, 1));
-            return m;
-        }
-    }
-    let x = between(part(lines, j, FROM), to, next(next(seed)));
-    more(lines, m, j, x, x)
-}
-
-// An amount of a line gets two lines of its own.
-fn three(lines: &mut [u32], m: usize, seed: usize) -> usize {
-    let j = pick(seed, m);
-    let x = between(part(lines, j, FROM), part(lines, j, TO), next(seed));
-    let first = more(lines, m, j, x, x);
-    more(lines, first, j, x, x)
-}
-
-// A line gets another inside it.
-fn inside(lines: &mut [u32], m: usize, seed: usize) -> usize {
-    let j = pick(seed, m);
-    let to = part(lines, j, TO);
-    let x = between(part(lines, j, FROM), to, next(seed));
-    let y = between(x, to, next(next(seed)));
-    more(lines, m, j, x, y)
-}
-
-// One fault of the amounts and another.
-fn two(lines: &mut [u32], m: usize, seed: usize) -> usize {
-    let other = next(next(next(seed)));
-    if pick(seed, 2) == 0 {
-        let held = inside(lines, m, seed);
-        return missing(lines, held, other);
-    }
-    let left = missing(lines, m, seed);
-    shared(lines, left, other)
 }
 
 // An entry below the level, or a number that is no entry where there is none. `pick` goes by the higher digits, so 1,024 more is the next entry.
-fn deeper(parents: &[u32], n: usize, d: usize, seed: usize) -> usize {
+fn deeper(classes: Classes, seed: usize) -> usize {
+    let n = classes.n;
     let mut s = seed;
-    let mut i = 0;
-    while i < n {
+    for _ in 0..n {
         let v = pick(s, n);
-        if d < climbs(parents, n, v) {
+        if classes.level < climbs(classes.parents, n, v) {
             return v;
         }
-        s = add(s, 1024);
-        i += 1;
+        s = s.wrapping_add(1024);
     }
     n
 }
 
-// The field that makes a line bad, and its number then.
-fn bad_field(kind: usize) -> usize {
+// The field that makes a line bad, and its number then, where the line ends at `to`.
+fn bad_field(kind: Kind, to: usize, classes: Classes, seed: usize) -> (usize, usize) {
     match kind {
-        UNKNOWN | DEPTH => CLASS,
-        ABOVE => FROM,
-        HIGH_TO => TO,
-        _ => RATE,
+        Kind::Unknown => (CLASS, over(classes.n.saturating_sub(1), seed)),
+        Kind::Depth => (CLASS, deeper(classes, seed)),
+        Kind::Above => (FROM, to.wrapping_add(1)),
+        Kind::HighTo => (TO, over(MOST_SUM, seed)),
+        _ => (RATE, over(MOST_RATE, seed)),
     }
 }
 
-fn bad_number(kind: usize, to: usize, parents: &[u32], n: usize, d: usize, seed: usize) -> usize {
-    match kind {
-        UNKNOWN => over(less(n, 1), seed),
-        DEPTH => deeper(parents, n, d, seed),
-        ABOVE => add(to, 1),
-        HIGH_TO => over(MOST_SUM, seed),
-        _ => over(MOST_RATE, seed),
-    }
-}
-
-// A line gets a field that makes it bad.
-fn bad(
-    kind: usize,
-    lines: &mut [u32],
-    m: usize,
-    parents: &[u32],
-    n: usize,
-    d: usize,
-    seed: usize,
-) -> usize {
-    let j = pick(seed, m);
-    let x = bad_number(kind, part(lines, j, TO), parents, n, d, next(seed));
-    set_part(lines, j, bad_field(kind), x);
-    m
-}
-
-// A gap, and a bad line before it or behind it.
-fn gap_and_bad(
-    lines: &mut [u32],
-    m: usize,
-    parents: &[u32],
-    n: usize,
-    d: usize,
-    seed: usize,
-) -> usize {
-    let left = missing(lines, m, seed);
-    bad(HIGH_RATE, lines, left, parents, n, d, next(seed))
-}
-
-// Spoils what a kind of sheets names.
-pub(crate) fn spoil(
-    kind: usize,
-    lines: &mut [u32],
-    m: usize,
-    parents: &[u32],
-    n: usize,
-    d: usize,
-    seed: usize,
-) -> usize {
-    match kind {
-        MISSING => missing(lines, m, seed),
-        SHARED => shared(lines, m, seed),
-        THREE => three(lines, m, seed),
-        INSIDE => inside(lines, m, seed),
-        TWO | FULL_FAULT => two(lines, m, seed),
-        BEHIND => gap_and_bad(lines, m, parents, n, d, seed),
-        UNKNOWN | DEPTH | ABOVE | HIGH_TO | HIGH_RATE => {
-            bad(kind, lines, m, parents, n, d, seed)
+impl Lines {
+    // A line loses its first amount or its last; a line of one amount goes.
+    fn lose(&mut self, seed: usize) {
+        let j = pick(seed, self.count);
+        let from = self.part(j, FROM);
+        let to = self.part(j, TO);
+        if from == to {
+            self.drop_line(j);
+        } else if pick(next(seed), 2) == 0 {
+            self.set(j, FROM, from.wrapping_add(1));
+        } else {
+            self.set(j, TO, to.saturating_sub(1));
         }
-        _ => m,
+    }
+
+    // A band more of a line's class, from x to y.
+    fn more(&mut self, j: usize, x: usize, y: usize) {
+        let class = self.part(j, CLASS);
+        self.push(class, x, y, 77);
+    }
+
+    // A line gets the amount behind its last; or an amount of it a line of its own.
+    fn share(&mut self, seed: usize) {
+        let j = pick(seed, self.count);
+        let to = self.part(j, TO);
+        if pick(next(seed), 2) == 0 && to < MOST_SUM {
+            self.set(j, TO, to.wrapping_add(1));
+            return;
+        }
+        let x = between(self.part(j, FROM), to, next(next(seed)));
+        self.more(j, x, x);
+    }
+
+    // An amount of a line gets two lines of its own.
+    fn share_twice(&mut self, seed: usize) {
+        let j = pick(seed, self.count);
+        let x = between(self.part(j, FROM), self.part(j, TO), next(seed));
+        self.more(j, x, x);
+        self.more(j, x, x);
+    }
+
+    // A line gets another inside it.
+    fn nest(&mut self, seed: usize) {
+        let j = pick(seed, self.count);
+        let to = self.part(j, TO);
+        let x = between(self.part(j, FROM), to, next(seed));
+        let y = between(x, to, next(next(seed)));
+        self.more(j, x, y);
+    }
+
+    // One fault of the amounts and another.
+    fn spoil_twice(&mut self, seed: usize) {
+        let other = next(next(next(seed)));
+        if pick(seed, 2) == 0 {
+            self.nest(seed);
+            self.lose(other);
+        } else {
+            self.lose(seed);
+            self.share(other);
+        }
+    }
+
+    // A line gets a field that makes it bad.
+    fn spoil_line(&mut self, kind: Kind, classes: Classes, seed: usize) {
+        let j = pick(seed, self.count);
+        let (field, x) = bad_field(kind, self.part(j, TO), classes, next(seed));
+        self.set(j, field, x);
+    }
+
+    // Spoils what a kind of sheets names.
+    pub(crate) fn spoil(&mut self, kind: Kind, classes: Classes, seed: usize) {
+        match kind {
+            Kind::Missing => self.lose(seed),
+            Kind::Shared => self.share(seed),
+            Kind::Three => self.share_twice(seed),
+            Kind::Inside => self.nest(seed),
+            Kind::Two | Kind::FullFault => self.spoil_twice(seed),
+            // a gap, and a bad line before it or behind it
+            Kind::Behind => {
+                self.lose(seed);
+                self.spoil_line(Kind::HighRate, classes, next(seed));
+            }
+            Kind::Unknown | Kind::Depth | Kind::Above | Kind::HighTo | Kind::HighRate => {
+                self.spoil_line(kind, classes, seed);
+            }
+            _ => {}
+        }
     }
 }

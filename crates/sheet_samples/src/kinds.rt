@@ -1,81 +1,105 @@
 // The kinds of sheets, in the order in which the program prints them.
-
-pub const GOOD: usize = 0;
-
-pub const TEN_DIGITS: usize = 1;
-
-pub const MISSING: usize = 2;
-
-pub const SHARED: usize = 3;
-
-pub const THREE: usize = 4;
-
-pub const INSIDE: usize = 5;
-
-pub const LEFT_OUT: usize = 6;
-
-pub const TWO: usize = 7;
-
-pub const BEHIND: usize = 8;
-
-pub const UNKNOWN: usize = 9;
-
-pub const DEPTH: usize = 10;
-
-pub const ABOVE: usize = 11;
-
-pub const HIGH_TO: usize = 12;
-
-pub const HIGH_RATE: usize = 13;
-
-pub const ELEVEN_DIGITS: usize = 14;
-
-pub const NO_DIGITS: usize = 15;
-
-pub const OVER_WORD: usize = 16;
-
-pub const RETURN: usize = 17;
-
-pub const BLANK: usize = 18;
-
-pub const SIGN: usize = 19;
-
-pub const COMMA: usize = 20;
-
-pub const FEED: usize = 21;
-
-pub const NO_FEED: usize = 22;
-
-pub const CUT: usize = 23;
-
-pub const CHANGED: usize = 24;
-
-pub const EMPTY: usize = 25;
-
-pub const EMPTY_BELOW: usize = 26;
-
-pub const OTHER_LEVEL: usize = 27;
-
-pub const BROKEN: usize = 28;
-
-pub const FULL: usize = 29;
-
-pub const FULL_FAULT: usize = 30;
-
-pub const OVERFULL: usize = 31;
-
-pub const OVERFULL_CUT: usize = 32;
-
-pub const FULL_BYTE: usize = 33;
+ghost use Rattle.std.specs.Prelude.{◌≡◌, ◌↔◌};
+ghost use Rattle.sheet_samples.specs.declared.kinds.Kind.TheVariants.{Empty, EmptyBelow, OtherLevel, Broken};
 
 pub const KINDS: usize = 34;
 
-// The lines that a sheet of a kind is made with, or 0 for any number.
-pub(crate) fn total_of(kind: usize) -> usize {
-    match kind {
-        FULL | FULL_BYTE => 4096,
-        FULL_FAULT => 4095,
-        OVERFULL | OVERFULL_CUT => 4097,
-        _ => 0,
+#[derive(Clone, Copy, PartialEq, Eq)]
+pub enum Kind {
+    Good,
+    TenDigits,
+    Missing,
+    Shared,
+    Three,
+    Inside,
+    LeftOut,
+    Two,
+    Behind,
+    Unknown,
+    Depth,
+    Above,
+    HighTo,
+    HighRate,
+    ElevenDigits,
+    NoDigits,
+    OverWord,
+    Return,
+    Blank,
+    Sign,
+    Comma,
+    Feed,
+    NoFeed,
+    Cut,
+    Changed,
+    Empty,
+    EmptyBelow,
+    OtherLevel,
+    Broken,
+    Full,
+    FullFault,
+    Overfull,
+    OverfullCut,
+    FullByte,
+}
+
+impl Kind {
+    // The kind of a line; any line behind them is of the last.
+    pub fn at(line: usize) -> Kind
+        ensures empty { (result ≡ Empty) ↔ (line ≡ 25) }
+        ensures empty_below { (result ≡ EmptyBelow) ↔ (line ≡ 26) }
+        ensures other_level { (result ≡ OtherLevel) ↔ (line ≡ 27) }
+        ensures broken { (result ≡ Broken) ↔ (line ≡ 28) }
+    {
+        match line {
+            0 => Kind::Good,
+            1 => Kind::TenDigits,
+            2 => Kind::Missing,
+            3 => Kind::Shared,
+            4 => Kind::Three,
+            5 => Kind::Inside,
+            6 => Kind::LeftOut,
+            7 => Kind::Two,
+            8 => Kind::Behind,
+            9 => Kind::Unknown,
+            10 => Kind::Depth,
+            11 => Kind::Above,
+            12 => Kind::HighTo,
+            13 => Kind::HighRate,
+            14 => Kind::ElevenDigits,
+            15 => Kind::NoDigits,
+            16 => Kind::OverWord,
+            17 => Kind::Return,
+            18 => Kind::Blank,
+            19 => Kind::Sign,
+            20 => Kind::Comma,
+            21 => Kind::Feed,
+            22 => Kind::NoFeed,
+            23 => Kind::Cut,
+            24 => Kind::Changed,
+            25 => Kind::Empty,
+            26 => Kind::EmptyBelow,
+            27 => Kind::OtherLevel,
+            28 => Kind::Broken,
+            29 => Kind::Full,
+            30 => Kind::FullFault,
+            31 => Kind::Overfull,
+            32 => Kind::OverfullCut,
+            _ => Kind::FullByte,
+        }
+    }
+
+    // Whether a sheet of the kind has a stated number of lines, which is about the most.
+    pub(crate) fn is_full(self) -> bool {
+        self.total().is_some()
+    }
+
+    // That number.
+    pub(crate) fn total(self) -> Option<usize> {
+        match self {
+            Kind::Full | Kind::FullByte => Some(4096),
+            Kind::FullFault => Some(4095),
+            Kind::Overfull | Kind::OverfullCut => Some(4097),
+            _ => None,
+        }
     }
 }

@@ -1,28 +1,51 @@
-// Lines laid and taken away.
-use plain_sheets::line_words::{CLASS, FROM, RATE, TO, part, set_part};
-use samples::words::less;
+// The lines of a sheet that is made.
+use plain_sheets::line_words::{CLASS, FROM, RATE, ROOM, TO, part, set_part};
 
-// A line's four fields.
-pub(crate) fn lay(
-    lines: &mut [u32],
-    line: usize,
-    class: usize,
-    from: usize,
-    to: usize,
-    rate: usize,
-) {
-    set_part(lines, line, CLASS, class);
-    set_part(lines, line, FROM, from);
-    set_part(lines, line, TO, to);
-    set_part(lines, line, RATE, rate);
+// Their words, and how many there are.
+#[derive(Drop)]
+pub(crate) struct Lines {
+    pub(crate) words: [u32; ROOM],
+    pub(crate) count: usize,
 }
 
-// The last of m lines in the place of another. Answers how many there are then.
-pub(crate) fn drop_line(lines: &mut [u32], m: usize, line: usize) -> usize {
-    let last = less(m, 1);
-    let class = part(lines, last, CLASS);
-    let from = part(lines, last, FROM);
-    let to = part(lines, last, TO);
-    lay(lines, line, class, from, to, part(lines, last, RATE));
-    last
+impl Lines {
+    pub(crate) fn new() -> Lines {
+        Lines {
+            words: [0; ROOM],
+            count: 0,
+        }
+    }
+
+    pub(crate) fn part(&self, line: usize, field: usize) -> usize {
+        part(&self.words, line, field)
+    }
+
+    pub(crate) fn set(&mut self, line: usize, field: usize, x: usize) {
+        set_part(&mut self.words, line, field, x);
+    }
+
+    // A line's four fields.
+    fn lay(&mut self, line: usize, class: usize, from: usize, to: usize, rate: usize) {
+        self.set(line, CLASS, class);
+        self.set(line, FROM, from);
+        self.set(line, TO, to);
+        self.set(line, RATE, rate);
+    }
+
+    // A line behind the others.
+    pub(crate) fn push(&mut self, class: usize, from: usize, to: usize, rate: usize) {
+        self.lay(self.count, class, from, to, rate);
+        self.count = self.count.wrapping_add(1);
+    }
+
+    // The last line comes in the place of another.
+    pub(crate) fn drop_line(&mut self, line: usize) {
+        let last = self.count.saturating_sub(1);
+        let class = self.part(last, CLASS);
+        let from = self.part(last, FROM);
+        let to = self.part(last, TO);
+        let rate = self.part(last, RATE);
+        self.lay(line, class, from, to, rate);
+        self.count = last;
+    }
 }

@@ -1,28 +1,16 @@
-// Sheets without a fault, from a seed: the amounts of each class, an entry that is not below the level, are split into bands.
-use crate::laying::lay;
+// Sheets without a fault, from a seed: the amounts of each class are split into bands.
+use crate::laying::Lines;
+use plain_sheets::classes::Classes;
 use samples::amounts::{MOST_SUM, drawn};
-use samples::climbing::climbs;
 use samples::seeds::{next, pick};
-use samples::words::{add, least, less};
-
-// The lines that are made, and the classes that are left.
-#[derive(Clone, Copy)]
-struct Made {
-    lines: usize,
-    left: usize,
-}
 
 // How many amounts a band has behind its first: none, a few, or so many that a class with so many bands has all its amounts in a few of them.
 fn width(bands: usize, seed: usize) -> usize {
     match pick(seed, 4) {
         0 => 0,
         1 => pick(next(seed), 100),
-        _ => {
-            if bands < 9 {
-                return drawn(next(seed)) / 4;
-            }
-            drawn(next(seed)) / 2048
-        }
+        _ if bands < 9 => drawn(next(seed)) / 4,
+        _ => drawn(next(seed)) / 2048,
     }
 }
 
@@ -41,126 +29,48 @@ fn end(from: usize, behind: usize, bands: usize, seed: usize) -> usize {
     if behind == 0 {
         return MOST_SUM;
     }
-    least(add(from, width(bands, seed)), less(MOST_SUM, behind))
-}
-
-// A band of a class. Answers where the next begins.
-fn lay_band(
-    lines: &mut [u32],
-    line: usize,
-    class: usize,
-    from: usize,
-    behind: usize,
-    bands: usize,
-    seed: usize,
-) -> usize {
-    let to = end(from, behind, bands, next(seed));
-    lay(lines, line, class, from, to, rate(seed));
-    add(to, 1)
-}
-
-// A class's amounts in so many bands.
-fn split(lines: &mut [u32], first: usize, class: usize, bands: usize, seed: usize) {
-    let mut s = seed;
-    let mut from = 0;
-    let mut i = 0;
-    while i < bands {
-        s = next(add(s, i));
-        from = lay_band(
-            lines,
-            add(first, i),
-            class,
-            from,
-            less(bands, add(i, 1)),
-            bands,
-            s,
-        );
-        i += 1;
-    }
+    from.wrapping_add(width(bands, seed))
+        .min(MOST_SUM.saturating_sub(behind))
 }
 
 // How many bands a class gets: up to eight, but the last class all the lines that are left of a stated number.
-fn bands_of(made: Made, total: usize, seed: usize) -> usize {
-    if made.left == 1 {
-        if made.lines < total {
-            return less(total, made.lines);
+fn bands_of(lines: usize, left: usize, total: Option<usize>, seed: usize) -> usize {
+    match total {
+        Some(total) if left == 1 && lines < total => total - lines,
+        _ => pick(seed, 8).wrapping_add(1),
+    }
+}
+
+impl Lines {
+    // A class's amounts in so many bands.
+    fn split(&mut self, class: usize, bands: usize, seed: usize) {
+        let mut s = seed;
+        let mut from = 0;
+        for i in 0..bands {
+            s = next(s.wrapping_add(i));
+            let to = end(from, bands - i - 1, bands, next(s));
+            self.push(class, from, to, rate(s));
+            from = to.wrapping_add(1);
         }
     }
-    add(1, pick(seed, 8))
-}
 
-// The lines of an entry, where it is a class and not the one to leave out.
-fn make_class(
-    lines: &mut [u32],
-    made: Made,
-    total: usize,
-    parents: &[u32],
-    n: usize,
-    d: usize,
-    skip: usize,
-    v: usize,
-    seed: usize,
-) -> Made {
-    if is_class(parents, n, d, v) == 0 {
-        return made;
+    // A sheet for classes, of a stated number of lines or of any; one class may be left out.
+    pub(crate) fn make(
+        &mut self,
+        total: Option<usize>,
+        classes: Classes,
+        skip: Option<usize>,
+        seed: usize,
+    ) {
+        self.count = 0;
+        let mut left = (0..classes.n).filter(|v| classes.has(*v)).count();
+        for v in 0..classes.n {
+            if classes.has(v) && skip != Some(v) {
+                let s = next(seed.wrapping_add(v));
+                let bands = bands_of(self.count, left, total, s);
+                self.split(v, bands, next(s));
+                left = left.saturating_sub(1);
+            }
+        }
     }
-    if v == skip {
-        return made;
-    }
-    let bands = bands_of(made, total, seed);
-    split(lines, made.lines, v, bands, next(seed));
-    Made {
-        lines: add(made.lines, bands),
-        left: less(made.left, 1),
-    }
-}
-
-// 1 for a class, else 0.
-fn is_class(parents: &[u32], n: usize, d: usize, v: usize) -> usize {
-    if d < climbs(parents, n, v) {
-        return 0;
-    }
-    1
-}
-
-fn classes(parents: &[u32], n: usize, d: usize) -> usize {
-    let mut count = 0;
-    let mut v = 0;
-    while v < n {
-        count = add(count, is_class(parents, n, d, v));
-        v += 1;
-    }
-    count
-}
-
-// A sheet of level d, of a stated number of lines or, where that is 0, of any; the entry `skip` gets no lines. Answers the number of lines.
-pub(crate) fn make(
-    lines: &mut [u32],
-    total: usize,
-    parents: &[u32],
-    n: usize,
-    d: usize,
-    skip: usize,
-    seed: usize,
-) -> usize {
-    let mut made = Made {
-        lines: 0,
-        left: classes(parents, n, d),
-    };
-    let mut v = 0;
-    while v < n {
-        made = make_class(
-            lines,
-            made,
-            total,
-            parents,
-            n,
-            d,
-            skip,
-            v,
-            next(add(seed, v)),
-        );
-        v += 1;
-    }
-    made.lines
 }

@@ -1,33 +1,32 @@
-// The text of a sheet of each kind, from a seed.
+// The text of a sheet of each kind, from a seed. Each function that is public takes a kind by the number of its line, as its clauses do.
 ghost use Rattle.std.specs.Prelude.{◌≡◌};
+ghost use Rattle.sheet_samples.specs.declared.kinds.Kind.TheVariants.{Empty, EmptyBelow};
 
-use crate::faults::spoil;
-use crate::kinds::{
-    BLANK, CHANGED, COMMA, CUT, ELEVEN_DIGITS, EMPTY, EMPTY_BELOW, FEED, FULL_BYTE, LEFT_OUT,
-    NO_DIGITS, NO_FEED, OVER_WORD, OVERFULL_CUT, RETURN, SIGN, TEN_DIGITS, total_of,
-};
-use crate::making::make;
-use crate::writing::{
-    BLANK_BEFORE, COMMA_BEHIND, ELEVEN, FEED_BEFORE, MINUS, NONE, OVER, Odd, PADDED, RETURN_BEHIND,
-    byte, write,
-};
-use plain_sheets::line_words::{CLASS, RATE, ROOM, part};
+use crate::kinds::Kind;
+use crate::laying::Lines;
+use crate::writing::{Form, Odd, byte, write};
+use plain_sheets::classes::Classes;
+use plain_sheets::line_words::{CLASS, RATE};
 use samples::seeds::{next, pick};
-use samples::words::{TOP, add, less};
+
+// One of two.
+fn either(a: Form, b: Form, seed: usize) -> Form {
+    if pick(seed, 2) == 0 { a } else { b }
+}
 
 // The form that one field has; blanks, signs and line feeds have two each.
-fn form_of(kind: usize, seed: usize) -> usize {
+fn form_of(kind: Kind, seed: usize) -> Form {
     match kind {
-        TEN_DIGITS => PADDED,
-        ELEVEN_DIGITS => ELEVEN,
-        NO_DIGITS => NONE,
-        OVER_WORD => OVER,
-        RETURN => RETURN_BEHIND,
-        BLANK => add(BLANK_BEFORE, pick(seed, 2)),
-        SIGN => add(MINUS, pick(seed, 2)),
-        COMMA => COMMA_BEHIND,
-        FEED => add(FEED_BEFORE, pick(seed, 2)),
-        _ => 0,
+        Kind::TenDigits => Form::Padded,
+        Kind::ElevenDigits => Form::Eleven,
+        Kind::NoDigits => Form::NoDigits,
+        Kind::OverWord => Form::OverWord,
+        Kind::Return => Form::Behind(b'\r'),
+        Kind::Blank => either(Form::Before(b' '), Form::Behind(b' '), seed),
+        Kind::Sign => either(Form::Before(b'-'), Form::Before(b'+'), seed),
+        Kind::Comma => Form::Behind(b','),
+        Kind::Feed => either(Form::Before(b'\n'), Form::Behind(b'\n'), seed),
+        _ => Form::Plain,
     }
 }
 
@@ -39,7 +38,7 @@ fn field_of(seed: usize) -> usize {
     pick(next(seed), 4)
 }
 
-fn odd_of(kind: usize, m: usize, seed: usize) -> Odd {
+fn odd_of(kind: Kind, m: usize, seed: usize) -> Odd {
     Odd {
         line: pick(seed, m),
         field: field_of(next(seed)),
@@ -62,66 +61,43 @@ fn any_byte(seed: usize) -> u8 {
 }
 
 // The text of so many bytes, changed as a kind wants it. Answers how many bytes it has then.
-fn change(kind: usize, text: &mut [u8], count: usize, seed: usize) -> usize
-    ensures { (kind ≡ 25 → result ≡ 0) × (kind ≡ 26 → result ≡ 0) }
+fn change(kind: Kind, text: &mut [u8], count: usize, seed: usize) -> usize
+    ensures empty { kind ≡ Empty → result ≡ 0 }
+    ensures empty_below { kind ≡ EmptyBelow → result ≡ 0 }
 {
-    if kind == EMPTY {
-        return 0;
-    }
-    if kind == EMPTY_BELOW {
-        return 0;
-    }
     match kind {
-        NO_FEED | OVERFULL_CUT => less(count, 1),
-        CUT => pick(seed, count),
-        CHANGED => {
+        Kind::Empty | Kind::EmptyBelow => 0,
+        Kind::NoFeed | Kind::OverfullCut => count.saturating_sub(1),
+        Kind::Cut => pick(seed, count),
+        Kind::Changed => {
             byte(text, pick(seed, count), any_byte(next(seed)));
             count
         }
-        FULL_BYTE => byte(text, count, any_byte(seed)),
+        Kind::FullByte => byte(text, count, any_byte(seed)),
         _ => count,
     }
 }
 
-// The class that a sheet of a kind leaves out, if any.
-fn left_out(kind: usize, lines: &[u32], m: usize, seed: usize) -> usize {
-    if kind == LEFT_OUT {
-        return part(lines, pick(seed, m), CLASS);
+// The lines of a sheet of a kind. One kind leaves out the class of a line that it has at first.
+fn lay_lines(kind: Kind, lines: &mut Lines, classes: Classes, seed: usize) {
+    let total = kind.total();
+    lines.make(total, classes, None, seed);
+    if kind == Kind::LeftOut {
+        let class = lines.part(pick(seed, lines.count), CLASS);
+        lines.make(total, classes, Some(class), seed);
     }
-    TOP
+    lines.spoil(kind, classes, next(seed));
 }
 
-// The lines of a sheet of a kind. Answers how many.
-fn lay_lines(
-    kind: usize,
-    lines: &mut [u32],
-    parents: &[u32],
-    n: usize,
-    d: usize,
-    seed: usize,
-) -> usize {
-    let total = total_of(kind);
-    let all = make(lines, total, parents, n, d, TOP, seed);
-    let skip = left_out(kind, lines, all, seed);
-    let made = make(lines, total, parents, n, d, skip, seed);
-    spoil(kind, lines, made, parents, n, d, next(seed))
-}
-
-// The text of a sheet of a kind, for the classes of level d. Answers how many bytes it has.
-pub fn make_text(
-    kind: usize,
-    text: &mut [u8],
-    parents: &[u32],
-    n: usize,
-    d: usize,
-    seed: usize,
-) -> usize
+// The text of a sheet of a kind, for classes. Answers how many bytes it has.
+pub fn make_text(kind: usize, text: &mut [u8], classes: Classes, seed: usize) -> usize
     ensures { (kind ≡ 25 → result ≡ 0) × (kind ≡ 26 → result ≡ 0) }
 {
-    let mut lines = [0u32; ROOM];
-    let m = lay_lines(kind, &mut lines, parents, n, d, seed);
-    let odd = odd_of(kind, m, next(next(seed)));
-    let count = write(text, &lines, m, odd, seed);
+    let kind = Kind::at(kind);
+    let mut lines = Lines::new();
+    lay_lines(kind, &mut lines, classes, seed);
+    let odd = odd_of(kind, lines.count, next(next(seed)));
+    let count = write(text, &lines.words, lines.count, Some(odd), seed);
     change(kind, text, count, next(seed))
 }
 
@@ -129,10 +105,5 @@ pub fn make_text(
 pub fn write_lines(text: &mut [u8], lines: &[u32], m: usize, seed: usize) -> usize
     ensures { m ≡ 0 → result ≡ 0 }
 {
-    let plain = Odd {
-        line: m,
-        field: 0,
-        form: 0,
-    };
-    write(text, lines, m, plain, seed)
+    write(text, lines, m, None, seed)
 }

@@ -1,29 +1,27 @@
-// The tree, its table and the level that a sheet is tried with, from a seed.
+// The tree, its table and the level that a sheet is tried with, from a seed. Each function that is public takes a kind by the number of its line, as its clauses do.
 ghost use Rattle.std.specs.Prelude.{◌≡◌, ◌≤◌};
 
-use crate::kinds::{BROKEN, DEPTH, EMPTY_BELOW, FULL, OTHER_LEVEL};
+use crate::kinds::Kind;
 use samples::cases::{Case, GROWN, KINDS, case_at, count_at};
 use samples::climbing::climbs;
 use samples::seeds::{next, pick};
-use samples::words::{TOP, add, less, put};
+use samples::words::{TOP, put};
 
 // Which of the lists: of any kind with up to 40 entries, or for the longest sheets with up to 512; or a small tree.
-fn list_of(kind: usize, line: usize, seed: usize) -> usize {
+fn list_of(kind: Kind, line: usize, seed: usize) -> usize {
     if line == GROWN {
-        return pick(seed, count_at(GROWN));
+        pick(seed, count_at(GROWN))
+    } else if kind.is_full() {
+        pick(seed, 212)
+    } else {
+        pick(seed, 160)
     }
-    if kind < FULL {
-        return pick(seed, 160);
-    }
-    pick(seed, 212)
 }
 
 // The line of the lists that it is on: a kind of trees, or the small ones every other time.
-fn line_of(kind: usize, seed: usize) -> usize {
-    if kind < FULL {
-        if pick(seed, 2) == 0 {
-            return GROWN;
-        }
+fn line_of(kind: Kind, seed: usize) -> usize {
+    if !kind.is_full() && pick(seed, 2) == 0 {
+        return GROWN;
     }
     pick(next(seed), KINDS)
 }
@@ -32,6 +30,7 @@ fn line_of(kind: usize, seed: usize) -> usize {
 pub fn tree(kind: usize, seed: usize, parents: &mut [u32]) -> Case
     ensures { result.n ≤ 512 }
 {
+    let kind = Kind::at(kind);
     let line = line_of(kind, seed);
     case_at(line, list_of(kind, line, next(next(seed))), parents)
 }
@@ -40,31 +39,28 @@ pub fn tree(kind: usize, seed: usize, parents: &mut [u32]) -> Case
 pub fn level(kind: usize, parents: &[u32], n: usize, seed: usize) -> usize
     ensures { result ≤ n }
 {
-    let depth = climbs(parents, n, pick(next(add(seed, 1)), n));
-    if kind == DEPTH {
-        return less(depth, 1);
+    let depth = climbs(parents, n, pick(next(seed.wrapping_add(1)), n));
+    match Kind::at(kind) {
+        Kind::Depth => depth.saturating_sub(1),
+        _ => depth,
     }
-    depth
 }
 
 // The next level nearer the top, or the second where d is the first.
 fn nearer(d: usize) -> usize {
-    if d == 0 {
-        return 1;
-    }
-    less(d, 1)
+    d.checked_sub(1).unwrap_or(1)
 }
 
 // The level that is asked for: for some kinds one below every entry, or another than the lines are for.
 pub fn asked_level(kind: usize, n: usize, d: usize, seed: usize) -> usize
     ensures { (kind ≡ 26 → ⊥) → (kind ≡ 27 → ⊥) → result ≡ d }
 {
-    match kind {
-        EMPTY_BELOW => add(n, pick(next(seed), 2)),
-        OTHER_LEVEL => match pick(seed, 4) {
+    match Kind::at(kind) {
+        Kind::EmptyBelow => n.wrapping_add(pick(next(seed), 2)),
+        Kind::OtherLevel => match pick(seed, 4) {
             0 => TOP,
-            1 => add(d, 2),
-            2 => add(d, 1),
+            1 => d.wrapping_add(2),
+            2 => d.wrapping_add(1),
             _ => nearer(d),
         },
         _ => d,
@@ -80,9 +76,9 @@ fn broken_count(n: usize, seed: usize) -> usize {
         0 => 0,
         1 => n,
         2 => HEADER,
-        3 => add(HEADER, 1048577),
+        3 => HEADER + 1048577,
         4 => TOP,
-        _ => add(HEADER, add(n, 1)),
+        _ => n.wrapping_add(1).wrapping_add(HEADER),
     }
 }
 
@@ -90,12 +86,12 @@ fn broken_count(n: usize, seed: usize) -> usize {
 pub fn break_table(kind: usize, n: usize, t: usize, seed: usize, table: &mut [u32]) -> usize
     ensures { (kind ≡ 28 → ⊥) → result ≡ t }
 {
-    if kind != BROKEN {
+    if Kind::at(kind) != Kind::Broken {
         return t;
     }
     match pick(seed, 4) {
         0 => pick(next(seed), 4),
-        1 => less(t, add(4, pick(next(seed), 5))),
+        1 => t.saturating_sub(pick(next(seed), 5).wrapping_add(4)),
         _ => {
             put(table, 0, broken_count(n, next(seed)));
             t

@@ -3,165 +3,134 @@ ghost use Rattle.std.specs.Prelude.{◌≡◌};
 
 use plain_sheets::line_words::{CLASS, FROM, RATE, TO, part};
 use samples::seeds::{next, pick};
-use samples::words::add;
 
-// A field of a line, and its form: 0 for a plain number.
+// The form of a field: a plain number, digits of another number or too many or too few of them, or a byte more before the number or behind it.
+#[derive(Clone, Copy)]
+pub(crate) enum Form {
+    Plain,
+    Padded,
+    Eleven,
+    NoDigits,
+    OverWord,
+    Before(u8),
+    Behind(u8),
+}
+
+impl Form {
+    fn before(self) -> Option<u8> {
+        match self {
+            Form::Before(b) => Some(b),
+            _ => None,
+        }
+    }
+
+    fn behind(self) -> Option<u8> {
+        match self {
+            Form::Behind(b) => Some(b),
+            _ => None,
+        }
+    }
+
+    // How many digits of x it writes.
+    fn width(self, x: usize) -> usize {
+        match self {
+            Form::Padded | Form::OverWord => 10,
+            Form::Eleven => 11,
+            Form::NoDigits => 0,
+            _ => digits(x),
+        }
+    }
+
+    // The least number over a word, or x.
+    fn value(self, x: usize) -> usize {
+        match self {
+            Form::OverWord => 4294967296,
+            _ => x,
+        }
+    }
+}
+
+// A field of a line, and its form.
 #[derive(Clone, Copy)]
 pub(crate) struct Odd {
     pub(crate) line: usize,
     pub(crate) field: usize,
-    pub(crate) form: usize,
-}
-
-pub(crate) const PADDED: usize = 1;
-
-pub(crate) const ELEVEN: usize = 2;
-
-pub(crate) const NONE: usize = 3;
-
-pub(crate) const OVER: usize = 4;
-
-// From here on a form has a byte before the number or behind it.
-pub(crate) const RETURN_BEHIND: usize = 5;
-
-pub(crate) const BLANK_BEFORE: usize = 6;
-
-pub(crate) const BLANK_BEHIND: usize = 7;
-
-pub(crate) const MINUS: usize = 8;
-
-pub(crate) const PLUS: usize = 9;
-
-pub(crate) const COMMA_BEHIND: usize = 10;
-
-pub(crate) const FEED_BEFORE: usize = 11;
-
-pub(crate) const FEED_BEHIND: usize = 12;
-
-// The byte before a number and the byte behind it, or 0 for none.
-fn before(form: usize) -> u8 {
-    match form {
-        BLANK_BEFORE => b' ',
-        MINUS => b'-',
-        PLUS => b'+',
-        FEED_BEFORE => b'\n',
-        _ => 0,
-    }
-}
-
-fn behind(form: usize) -> u8 {
-    match form {
-        RETURN_BEHIND => b'\r',
-        BLANK_BEHIND => b' ',
-        COMMA_BEHIND => b',',
-        FEED_BEHIND => b'\n',
-        _ => 0,
-    }
+    pub(crate) form: Form,
 }
 
 // The number of x's digits.
 fn digits(x: usize) -> usize {
-    let mut count = 1;
+    let mut count: usize = 1;
     let mut rest = x / 10;
     while 0 < rest {
-        rest = rest / 10;
-        count = add(count, 1);
+        rest /= 10;
+        count = count.wrapping_add(1);
     }
     count
 }
 
-// How many digits a form writes.
-fn width(form: usize, x: usize) -> usize {
-    match form {
-        PADDED | OVER => 10,
-        ELEVEN => 11,
-        NONE => 0,
-        _ => digits(x),
-    }
-}
-
-// The least number over a word, or x.
-fn value(form: usize, x: usize) -> usize {
-    if form == OVER {
-        return 4294967296;
-    }
-    x
-}
-
-fn set_byte(text: &mut [u8], at: usize, b: u8) {
+// A byte behind so many; each of these answers how many bytes there are then.
+pub(crate) fn byte(text: &mut [u8], at: usize, b: u8) -> usize {
     if at < text.len() {
         text[at] = b;
     }
+    at.wrapping_add(1)
 }
 
-// A byte behind so many; each of these answers how many bytes there are then.
-pub(crate) fn byte(text: &mut [u8], at: usize, b: u8) -> usize {
-    set_byte(text, at, b);
-    add(at, 1)
-}
-
-fn some_byte(text: &mut [u8], at: usize, b: u8) -> usize {
-    if b == 0 {
-        return at;
+fn some_byte(text: &mut [u8], at: usize, b: Option<u8>) -> usize {
+    match b {
+        Some(b) => byte(text, at, b),
+        None => at,
     }
-    byte(text, at, b)
-}
-
-fn digit(x: usize) -> u8 {
-    b'0' + (x % 10) as u8
 }
 
 // The last `width` digits of x.
 fn number(text: &mut [u8], at: usize, width: usize, x: usize) -> usize {
     let mut rest = x;
-    let mut i = width;
-    while 0 < i {
-        i -= 1;
-        byte(text, add(at, i), digit(rest));
-        rest = rest / 10;
+    for i in (0..width).rev() {
+        byte(text, at.wrapping_add(i), b'0' + (rest % 10) as u8);
+        rest /= 10;
     }
-    add(at, width)
+    at.wrapping_add(width)
 }
 
 // A number in its form, and the byte that ends its field.
-fn field(text: &mut [u8], at: usize, x: usize, form: usize, end: u8) -> usize {
-    let first = some_byte(text, at, before(form));
-    let last = number(text, first, width(form, x), value(form, x));
-    let more = some_byte(text, last, behind(form));
+fn field(text: &mut [u8], at: usize, x: usize, form: Form, end: u8) -> usize {
+    let first = some_byte(text, at, form.before());
+    let last = number(text, first, form.width(x), form.value(x));
+    let more = some_byte(text, last, form.behind());
     byte(text, more, end)
 }
 
-// A line's field, in the form that it has.
-fn line_field(
-    text: &mut [u8],
-    at: usize,
-    lines: &[u32],
-    line: usize,
-    which: usize,
-    odd: Odd,
-    end: u8,
-) -> usize {
-    let x = part(lines, line, which);
-    if odd.line == line {
-        if odd.field == which {
-            return field(text, at, x, odd.form, end);
-        }
+// The form of a line's field.
+fn form_of(line: usize, which: usize, odd: Option<Odd>) -> Form {
+    match odd {
+        Some(odd) if odd.line == line && odd.field == which => odd.form,
+        _ => Form::Plain,
     }
-    field(text, at, x, 0, end)
 }
 
-fn write_line(text: &mut [u8], at: usize, lines: &[u32], line: usize, odd: Odd) -> usize {
-    let class = line_field(text, at, lines, line, CLASS, odd, b',');
-    let from = line_field(text, class, lines, line, FROM, odd, b',');
-    let to = line_field(text, from, lines, line, TO, odd, b',');
-    line_field(text, to, lines, line, RATE, odd, b'\n')
+fn write_line(text: &mut [u8], at: usize, lines: &[u32], line: usize, odd: Option<Odd>) -> usize {
+    let mut next = at;
+    for (which, end) in [(CLASS, b','), (FROM, b','), (TO, b','), (RATE, b'\n')] {
+        let x = part(lines, line, which);
+        next = field(text, next, x, form_of(line, which, odd), end);
+    }
+    next
 }
 
 // A prime above every number of lines: steps of one length among so many places come to each of them once.
 const PLACES: usize = 4099;
 
 // The line of a place, where it is one of m.
-fn some_line(text: &mut [u8], at: usize, lines: &[u32], m: usize, line: usize, odd: Odd) -> usize
+fn some_line(
+    text: &mut [u8],
+    at: usize,
+    lines: &[u32],
+    m: usize,
+    line: usize,
+    odd: Option<Odd>,
+) -> usize
     ensures { m ≡ 0 → result ≡ at }
 {
     if m <= line {
@@ -171,17 +140,21 @@ fn some_line(text: &mut [u8], at: usize, lines: &[u32], m: usize, line: usize, o
 }
 
 // The text of m lines, in an order that the seed gives.
-pub(crate) fn write(text: &mut [u8], lines: &[u32], m: usize, odd: Odd, seed: usize) -> usize
+pub(crate) fn write(
+    text: &mut [u8],
+    lines: &[u32],
+    m: usize,
+    odd: Option<Odd>,
+    seed: usize,
+) -> usize
     ensures { m ≡ 0 → result ≡ 0 }
 {
-    let step = add(1, pick(seed, 4098));
+    let step = pick(seed, 4098).wrapping_add(1);
     let mut place = pick(next(seed), PLACES);
     let mut at = 0;
-    let mut i = 0;
-    while i < PLACES {
+    for _ in 0..PLACES {
         at = some_line(text, at, lines, m, place, odd);
-        place = add(place, step) % PLACES;
-        i += 1;
+        place = place.wrapping_add(step) % PLACES;
     }
     at
 }

@@ -1,11 +1,6 @@
--- `writing::write` is safe and ends, and no lines have no bytes. Each slice keeps its length. Assumes nothing.
-use mathlib.Core.Path.{◌≡◌}
-use Prim.Native.Nat.{◌-◌}
-use lib.ListN.{length}
+-- No lines have no bytes. Assumes nothing.
+use Rattle.std.proofs.Common.{◌≡◌}
 use Rattle.sheet_samples.proofs.writing.write.Given as goal
 
-abbrev pub invariant-loop-i : goal.invariant-loop-i
-invariant-loop-i l = (length l.text ≡ length l.initial.text) × (l.m ≡ 0 → l.at ≡ 0)
-
-abbrev pub decreases-loop-i : goal.decreases-loop-i
-decreases-loop-i l = 4099 - l.i
+abbrev pub invariant-loop : goal.invariant-loop
+invariant-loop l = l.m ≡ 0 → l.at ≡ 0
