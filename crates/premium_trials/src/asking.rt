@@ -3,113 +3,76 @@ use answers::Answer;
 use base::{Node, Sum};
 use plain_steps::Walk;
 use samples::amounts::{MOST_RATE, MOST_SUM, cents, product, signed};
+use samples::refusals::{Refusal, numbers};
 use samples::tally::Tally;
-use samples::words::{get, narrow, wide};
+use samples::words::{narrow, wide};
 
-// What a rating lookup is to answer, and what a premium question is: number, word and the size of the cents.
+// The table that is asked, the shapes' strings, the rates, and the list that the table is of.
 #[derive(Clone, Copy)]
-pub(crate) struct Looked {
-    pub(crate) number: usize,
-    pub(crate) word: usize,
+pub(crate) struct Trial<'a> {
+    pub(crate) table: &'a [u32],
+    pub(crate) strings: &'a [u32],
+    pub(crate) rates: &'a [u32],
+    pub(crate) parents: &'a [u32],
 }
 
+// What a rating lookup is to answer.
+pub(crate) type Looked = Result<usize, Refusal>;
+
+// What a premium question is to answer: a class, and the size of the cents.
 #[derive(Clone, Copy)]
 struct Due {
-    number: usize,
-    word: usize,
+    class: usize,
     cents: usize,
 }
 
-fn refused(number: usize, word: usize) -> Due {
-    Due {
-        number,
-        word,
-        cents: 0,
-    }
-}
-
 // The lookup's refusals first, then the rate's, then the sum's.
-fn wanted(rates: &[u32], looked: Looked, size: usize) -> Due {
-    if looked.number != 0 {
-        return refused(looked.number, looked.word);
-    }
-    if rates.len() <= looked.word {
-        return refused(11, 0);
-    }
-    let rate = get(rates, looked.word);
+fn wanted(rates: &[u32], looked: Looked, size: usize) -> Result<Due, Refusal> {
+    let class = looked?;
+    let rate = wide(*rates.get(class).ok_or(Refusal::BadRate)?);
     if MOST_RATE < rate {
-        return refused(11, 0);
+        return Err(Refusal::BadRate);
     }
     if MOST_SUM < size {
-        return refused(12, 0);
+        return Err(Refusal::BadSum);
     }
-    Due {
-        number: 0,
-        word: looked.word,
+    Ok(Due {
+        class,
         cents: cents(product(size, rate)),
-    }
+    })
 }
 
 // Whether an answer has the cells of the lookup, at most ten.
 fn walked(given: Answer, walk: Walk, looked: Looked) -> bool {
+    let (number, word) = numbers(looked);
     let listed = given.cells;
     let cells = listed.at;
-    if 10 < listed.count {
-        return false;
-    }
-    walk.same(
-        narrow(looked.number),
-        narrow(looked.word),
-        listed.count,
-        cells,
-    )
+    listed.count <= 10 && walk.same(narrow(number), narrow(word), listed.count, cells)
 }
 
-// Asks a premium, and compares number, word, all fifteen places, the count and the cents.
-fn ask(
-    table: &[u32],
-    strings: &[u32],
-    rates: &[u32],
-    v: u32,
-    d: u32,
-    negative: bool,
-    size: usize,
-    looked: Looked,
-) -> Tally {
-    let sum = signed(negative, size);
-    let given = premiums::premium(table, rates, Node(v), d, Sum(sum));
-    let answer = given.answer;
-    let money = given.cents;
-    if !walked(answer, plain_steps::rating(table, strings, v, d), looked) {
-        return Tally::wrong();
+impl<'a> Trial<'a> {
+    // Asks a premium, and compares number, word, all fifteen places, the count and the cents.
+    fn ask(&self, v: u32, d: u32, negative: bool, size: usize, looked: Looked) -> Tally {
+        let sum = Sum(signed(negative, size));
+        let given = premiums::premium(self.table, self.rates, Node(v), d, sum);
+        let answer = given.answer;
+        let money = given.cents;
+        let walk = plain_steps::rating(self.table, self.strings, v, d);
+        let want = wanted(self.rates, looked, size);
+        let (number, word) = numbers(want.map(|due| due.class));
+        let size = want.map_or(0, |due| due.cents);
+        Tally::of(
+            walked(answer, walk, looked)
+                && wide(answer.number) == number
+                && wide(answer.word) == word
+                && money.0 == signed(negative, size),
+        )
     }
-    let want = wanted(rates, looked, size);
-    let due = signed(negative, want.cents);
-    if wide(answer.number) != want.number {
-        return Tally::wrong();
-    }
-    if wide(answer.word) != want.word {
-        return Tally::wrong();
-    }
-    if money.0 != due {
-        return Tally::wrong();
-    }
-    Tally::right()
-}
 
-// The same with both signs.
-pub(crate) fn both(
-    table: &[u32],
-    strings: &[u32],
-    rates: &[u32],
-    v: usize,
-    d: usize,
-    size: usize,
-    looked: Looked,
-) -> Tally {
-    let entry = narrow(v);
-    let level = narrow(d);
-    let added = ask(table, strings, rates, entry, level, false, size, looked);
-    let taken = ask(table, strings, rates, entry, level, true, size, looked);
-    added.plus(taken)
+    // The same with both signs.
+    pub(crate) fn both(&self, v: usize, d: usize, size: usize, looked: Looked) -> Tally {
+        let (v, d) = (narrow(v), narrow(d));
+        let added = self.ask(v, d, false, size, looked);
+        added.plus(self.ask(v, d, true, size, looked))
+    }
 }

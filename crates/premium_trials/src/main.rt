@@ -7,137 +7,83 @@ mod halves;
 mod printed;
 mod trees;
 
-use crate::halves::rests;
+use crate::asking::Trial;
 use crate::printed::say;
-use crate::trees::{LISTS, entries, lay_rates, rates_of};
+use crate::trees::List;
 use plain_steps::shape_strings;
 use samples::cases::{GROWN, case_at, count_at};
 use samples::tally::Tally;
-use samples::words::{TOP, add, less, put};
+use samples::words::{TOP, narrow};
 use std::io;
 
+// The lines of the output: the lists of rates, and the rests of a cent, from 4,998 parts on.
 const LINES: usize = 10;
 
-// The table of the list of n entries.
-fn lay(parents: &[u32], n: usize, table: &mut [u32], space: &mut [u32]) {
-    if n <= parents.len() {
-        prepare::prepare(&parents[..n], table, space);
-    }
+// The table of a list.
+fn lay(parents: &[u32], table: &mut [u32]) {
+    let mut space = [0u32; 3075];
+    prepare::prepare(parents, table, &mut space);
 }
 
-// Every question on a table of t words, with m rates.
-fn questions(
-    table: &[u32],
-    t: usize,
-    strings: &[u32],
-    rates: &[u32],
-    m: usize,
-    seed: usize,
-    parents: &[u32],
-    n: usize,
-) -> Tally {
-    if t <= table.len() {
-        if m <= rates.len() {
-            return entries(&table[..t], strings, &rates[..m], seed, parents, n);
-        }
-    }
-    Tally::wrong()
-}
-
-// The i-th small tree with a kind of list of rates.
-fn small_tree(
-    list: usize,
-    i: usize,
-    parents: &mut [u32],
-    table: &mut [u32],
-    space: &mut [u32],
-    rates: &mut [u32],
-    strings: &[u32],
-) -> Tally {
-    let c = case_at(GROWN, i, parents);
-    let m = rates_of(list, c.n);
-    lay(parents, c.n, table, space);
-    lay_rates(list, m, i, rates);
-    questions(table, c.table, strings, rates, m, i, parents, c.n)
+// The k-th small tree with a kind of list of rates.
+fn small_tree(list: List, k: usize, strings: &[u32]) -> Tally {
+    let mut words = [0u32; 512];
+    let mut cells = [0u32; 6983];
+    let mut all_rates = [0u32; 512];
+    let case = case_at(GROWN, k, &mut words);
+    let parents = &words[..case.n];
+    let rates = &mut all_rates[..list.count(case.n)];
+    lay(parents, &mut cells);
+    list.lay(k, rates);
+    let trial = Trial {
+        table: &cells[..case.table],
+        strings,
+        rates,
+        parents,
+    };
+    trial.entries(k)
 }
 
 // Every small tree.
-fn small_trees(
-    list: usize,
-    parents: &mut [u32],
-    table: &mut [u32],
-    space: &mut [u32],
-    rates: &mut [u32],
-    strings: &[u32],
-) -> Tally {
-    let count = count_at(GROWN);
-    let mut tally = Tally::new();
-    let mut i = 0;
-    while i < count {
-        tally = tally.plus(small_tree(list, i, parents, table, space, rates, strings));
-        i += 1;
-    }
-    tally
+fn small_trees(list: List, strings: &[u32]) -> Tally {
+    (0..count_at(GROWN)).fold(
+        Tally::new(),
+        |sum, k| sum.plus(small_tree(list, k, strings)),
+    )
 }
 
 // The sums whose parts leave that rest, in a tree of the top alone.
-fn rest_tally(
-    rest: usize,
-    parents: &mut [u32],
-    table: &mut [u32],
-    space: &mut [u32],
-    strings: &[u32],
-) -> Tally {
-    put(parents, 0, TOP);
-    lay(parents, 1, table, space);
-    rests(table, strings, rest)
+fn rest_tally(rest: usize, strings: &[u32]) -> Tally {
+    let parents = [narrow(TOP)];
+    let mut table = [0u32; 6983];
+    lay(&parents, &mut table);
+    let trial = Trial {
+        table: &table,
+        strings,
+        rates: &[],
+        parents: &parents,
+    };
+    trial.rests(rest)
 }
 
-fn line_tally(
-    line: usize,
-    parents: &mut [u32],
-    table: &mut [u32],
-    space: &mut [u32],
-    rates: &mut [u32],
-    strings: &[u32],
-) -> Tally {
-    if line < LISTS {
-        return small_trees(line, parents, table, space, rates, strings);
+fn line_tally(line: usize, strings: &[u32]) -> Tally {
+    match line {
+        0 => small_trees(List::One, strings),
+        1 => small_trees(List::Over, strings),
+        2 => small_trees(List::Empty, strings),
+        3 => small_trees(List::Half, strings),
+        4 => small_trees(List::Drawn, strings),
+        _ => rest_tally(line.wrapping_add(4993), strings),
     }
-    rest_tally(add(4998, less(line, LISTS)), parents, table, space, strings)
-}
-
-fn run(
-    rt: &impl Print,
-    parents: &mut [u32],
-    table: &mut [u32],
-    space: &mut [u32],
-    rates: &mut [u32],
-    strings: &[u32],
-) -> io::Result<()> {
-    let mut total = Tally::new();
-    let mut line = 0;
-    while line < LINES {
-        let tally = line_tally(line, parents, table, space, rates, strings);
-        say(rt, line, tally)?;
-        total = total.plus(tally);
-        line += 1;
-    }
-    say(rt, LINES, total)
 }
 
 fn main(rt: HostRuntime) -> io::Result<()> {
-    let mut parents = [0u32; 512];
-    let mut table = [0u32; 6983];
-    let mut space = [0u32; 3075];
-    let mut rates = [0u32; 512];
     let strings = shape_strings();
-    run(
-        &rt,
-        &mut parents,
-        &mut table,
-        &mut space,
-        &mut rates,
-        &strings,
-    )
+    let mut total = Tally::new();
+    for line in 0..LINES {
+        let tally = line_tally(line, &strings);
+        say(&rt, line, tally)?;
+        total = total.plus(tally);
+    }
+    say(&rt, LINES, total)
 }

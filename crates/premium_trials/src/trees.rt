@@ -1,154 +1,117 @@
 // Every entry of a tree at every level, with sums of every kind.
-use crate::asking::{Looked, both};
+ghost use Rattle.std.specs.Prelude.{◌≤◌};
+
+use crate::asking::{Looked, Trial};
 use samples::amounts::drawn;
 use samples::climbing::{above, climbs};
+use samples::refusals::Refusal;
 use samples::seeds::{next, pick};
 use samples::tally::Tally;
-use samples::words::{TOP, add, less, put};
+use samples::words::{TOP, put};
 
 // The kinds of lists of rates: one rate for all, one over the limit, none, half as many as entries, and rates from a seed with both limits among them.
-pub(crate) const LISTS: usize = 5;
+#[derive(Clone, Copy, PartialEq, Eq)]
+pub(crate) enum List {
+    One,
+    Over,
+    Empty,
+    Half,
+    Drawn,
+}
 
-const SUMS: usize = 9;
+impl<'a> Trial<'a> {
+    // Small sums and those at the limits, then two from a seed, each with both signs, where the lookup is to answer the same.
+    fn sums(&self, seed: usize, v: usize, d: usize, looked: Looked) -> Tally {
+        let draw = next(next(seed.wrapping_add(v)).wrapping_add(d));
+        let sizes: [usize; 9] = [
+            0,
+            25,
+            2000000000,
+            2000000001,
+            4294967296,
+            9223372036854775807,
+            9223372036854775808,
+            pick(draw, 1000),
+            drawn(draw),
+        ];
+        let mut tally = Tally::new();
+        for size in sizes {
+            tally = tally.plus(self.both(v, d, size, looked));
+        }
+        tally
+    }
 
-// Small sums and those at the limits come first, then sums from a seed; each is asked with both signs.
-fn size_at(i: usize, seed: usize) -> usize {
-    match i {
-        0 => 0,
-        1 => 25,
-        2 => 2000000000,
-        3 => 2000000001,
-        4 => 4294967296,
-        5 => 9223372036854775807,
-        6 => 9223372036854775808,
-        7 => pick(seed, 1000),
-        _ => drawn(seed),
+    // An entry at every level to two below its own, where it is the class itself.
+    fn levels(&self, seed: usize, v: usize) -> Tally {
+        let depth = climbs(self.parents, self.parents.len(), v);
+        let mut tally = Tally::new();
+        for d in 0..depth.wrapping_add(3) {
+            let class = above(self.parents, v, depth.saturating_sub(d));
+            tally = tally.plus(self.sums(seed, v, d, Ok(class)));
+        }
+        tally
+    }
+
+    // The first words of the table alone.
+    fn cut(&self, words: usize, seed: usize) -> Tally {
+        if self.table.len() < words {
+            return Tally::wrong();
+        }
+        let trial = Trial {
+            table: &self.table[..words],
+            strings: self.strings,
+            rates: self.rates,
+            parents: self.parents,
+        };
+        trial.sums(seed, 0, 0, Err(Refusal::Broken))
+    }
+
+    // A table of no words, and one of four, which has a cell 0 and no more; a number that is no entry; and every entry.
+    pub(crate) fn entries(&self, seed: usize) -> Tally {
+        let n = self.parents.len();
+        let cuts = self.cut(0, seed).plus(self.cut(4, seed));
+        let mut tally = cuts.plus(self.sums(seed, n, 0, Err(Refusal::Unknown(n))));
+        for v in 0..n {
+            tally = tally.plus(self.levels(seed, v));
+        }
+        tally
     }
 }
 
-// Every kind of sum, where the lookup is to answer the same.
-fn sums(
-    table: &[u32],
-    strings: &[u32],
-    rates: &[u32],
-    seed: usize,
-    v: usize,
-    d: usize,
-    looked: Looked,
-) -> Tally {
-    let mut tally = Tally::new();
-    let mut i = 0;
-    while i < SUMS {
-        let size = size_at(i, next(add(next(add(seed, v)), d)));
-        tally = tally.plus(both(table, strings, rates, v, d, size, looked));
-        i += 1;
+impl List {
+    // The rate of an entry.
+    fn rate(self, v: usize, seed: usize) -> usize {
+        match self {
+            List::Over => 1000001,
+            List::Drawn => {
+                let draw = next(seed.wrapping_add(v));
+                match pick(draw, 8) {
+                    0 => 0,
+                    1 => 1000000,
+                    2 => 1000001,
+                    3 => TOP,
+                    _ => pick(next(draw), 1000001),
+                }
+            }
+            _ => 1000,
+        }
     }
-    tally
-}
 
-// What the rating lookup of v at level d is to answer, where v is so deep: v itself where that is less.
-fn looked(parents: &[u32], v: usize, depth: usize, d: usize) -> Looked {
-    if depth < d {
-        return Looked { number: 0, word: v };
+    // How many rates there are for n entries.
+    pub(crate) fn count(self, n: usize) -> usize
+        ensures { result ≤ n }
+    {
+        match self {
+            List::Empty => 0,
+            List::Half => n / 2,
+            _ => n,
+        }
     }
-    Looked {
-        number: 0,
-        word: above(parents, v, less(depth, d)),
-    }
-}
 
-// An entry at every level to two below its own.
-fn levels(
-    table: &[u32],
-    strings: &[u32],
-    rates: &[u32],
-    seed: usize,
-    parents: &[u32],
-    n: usize,
-    v: usize,
-) -> Tally {
-    let depth = climbs(parents, n, v);
-    let count = add(depth, 3);
-    let mut tally = Tally::new();
-    let mut d = 0;
-    while d < count {
-        let found = looked(parents, v, depth, d);
-        tally = tally.plus(sums(table, strings, rates, seed, v, d, found));
-        d += 1;
-    }
-    tally
-}
-
-// A table of no words, and one of four, which has a cell 0 and no more.
-fn cut(table: &[u32], strings: &[u32], rates: &[u32], seed: usize) -> Tally {
-    let broken = Looked { number: 9, word: 0 };
-    let none: [u32; 0] = [];
-    let tally = sums(&none, strings, rates, seed, 0, 0, broken);
-    if 4 <= table.len() {
-        return tally.plus(sums(&table[..4], strings, rates, seed, 0, 0, broken));
-    }
-    Tally::wrong()
-}
-
-// A table cut short, and a number that is no entry.
-fn unfound(table: &[u32], strings: &[u32], rates: &[u32], seed: usize, n: usize) -> Tally {
-    let unknown = Looked { number: 7, word: n };
-    let other = sums(table, strings, rates, seed, n, 0, unknown);
-    cut(table, strings, rates, seed).plus(other)
-}
-
-// These, and every entry.
-pub(crate) fn entries(
-    table: &[u32],
-    strings: &[u32],
-    rates: &[u32],
-    seed: usize,
-    parents: &[u32],
-    n: usize,
-) -> Tally {
-    let mut tally = unfound(table, strings, rates, seed, n);
-    let mut v = 0;
-    while v < n {
-        tally = tally.plus(levels(table, strings, rates, seed, parents, n, v));
-        v += 1;
-    }
-    tally
-}
-
-// The rate of an entry in a kind of list.
-fn rate_at(list: usize, v: usize, seed: usize) -> usize {
-    if list == 1 {
-        return 1000001;
-    }
-    if list < 4 {
-        return 1000;
-    }
-    let draw = next(add(seed, v));
-    match pick(draw, 8) {
-        0 => 0,
-        1 => 1000000,
-        2 => 1000001,
-        3 => TOP,
-        _ => pick(next(draw), 1000001),
-    }
-}
-
-// How many rates a kind of list has for n entries.
-pub(crate) fn rates_of(list: usize, n: usize) -> usize {
-    if list == 2 {
-        return 0;
-    }
-    if list == 3 {
-        return n / 2;
-    }
-    n
-}
-
-// Lays the rates of n entries.
-pub(crate) fn lay_rates(list: usize, n: usize, seed: usize, rates: &mut [u32]) {
-    let mut v = 0;
-    while v < n {
-        put(rates, v, rate_at(list, v, next(seed)));
-        v += 1;
+    // Lays the rates.
+    pub(crate) fn lay(self, seed: usize, rates: &mut [u32]) {
+        for v in 0..rates.len() {
+            put(rates, v, self.rate(v, next(seed)));
+        }
     }
 }
