@@ -1,44 +1,27 @@
 // The check of one sheet and one question with it, held to what they are to answer.
+use answers::Answer;
 use base::{Node, Sum};
 use plain_sheets::judging::Due;
 use plain_steps::Walk;
 use pricing::BandQuote;
 use samples::amounts::signed;
+use samples::refusals::{Refusal, numbers};
 use samples::tally::Tally;
 use samples::words::{narrow, wide};
 use sheets::{SHEET_WORDS, Verdict};
 
-fn tell(same: bool) -> Tally {
-    if same {
-        return Tally::right();
-    }
-    Tally::wrong()
+// Whether a verdict is what it is to be.
+fn same_verdict(given: Verdict, want: Result<usize, Refusal>) -> bool {
+    let (number, word) = numbers(want);
+    let amount = match want {
+        Ok(_) => 0,
+        Err(refusal) => refusal.amount(),
+    };
+    wide(given.number) == number && wide(given.word) == word && wide(given.amount) == amount
 }
 
-fn same_verdict(given: Verdict, want: Due) -> bool {
-    if wide(given.number) != want.number {
-        return false;
-    }
-    if wide(given.word) != want.word {
-        return false;
-    }
-    wide(given.amount) == want.amount
-}
-
-// Whether all words are the same one.
-fn all_are(words: &[u64], word: u64) -> bool {
-    let mut i = 0;
-    while i < words.len() {
-        if words[i] != word {
-            return false;
-        }
-        i += 1;
-    }
-    true
-}
-
-pub(crate) fn check(table: &[u32], text: &[u8], d: u32, want: Due) -> Tally {
-    tell(same_verdict(sheets::check(table, text, d), want))
+pub(crate) fn check(table: &[u32], text: &[u8], d: u32, want: Result<usize, Refusal>) -> Tally {
+    Tally::of(same_verdict(sheets::check(table, text, d), want))
 }
 
 // The same into words that are all `word`, and stay so where the sheet is refused.
@@ -46,77 +29,71 @@ pub(crate) fn check_into(
     table: &[u32],
     text: &[u8],
     d: u32,
-    want: Due,
+    want: Result<usize, Refusal>,
     word: u64,
     sheet: &mut [u64; SHEET_WORDS],
 ) -> Tally {
     let given = sheets::check_into(table, text, d, sheet);
-    if !same_verdict(given, want) {
-        return Tally::wrong();
-    }
-    if want.number != 0 {
-        return tell(all_are(sheet, word));
-    }
-    Tally::right()
+    let left = want.is_ok() || sheet.iter().all(|w| *w == word);
+    Tally::of(same_verdict(given, want) && left)
 }
 
-// Whether a quote has the lookup's cells, at most ten, and is what it is to be.
-fn same_quote(given: BandQuote, walk: Walk, looked: Due, want: Due, negative: bool) -> bool {
-    let answer = given.answer;
-    let listed = answer.cells;
-    let cells = listed.at;
-    let money = given.cents;
-    if 10 < listed.count {
-        return false;
-    }
-    if !walk.same(
-        narrow(looked.number),
-        narrow(looked.word),
-        listed.count,
-        cells,
-    ) {
-        return false;
-    }
-    let verdict = Verdict {
-        number: answer.number,
-        word: answer.word,
-        amount: given.amount,
-    };
-    if !same_verdict(verdict, want) {
-        return false;
-    }
-    money.0 == signed(negative, want.cents)
+// A question of the price of a size for v at level d, what the lookup and it are to answer, and the walk of the lookup.
+#[derive(Clone, Copy)]
+pub(crate) struct Question {
+    pub(crate) v: usize,
+    pub(crate) d: usize,
+    pub(crate) size: usize,
+    pub(crate) looked: Result<usize, Refusal>,
+    pub(crate) want: Result<Due, Refusal>,
+    pub(crate) walk: Walk,
 }
 
-// A question with a text.
-pub(crate) fn price(
-    table: &[u32],
-    text: &[u8],
-    v: u32,
-    d: u32,
-    negative: bool,
-    size: usize,
-    walk: Walk,
-    looked: Due,
-    want: Due,
-) -> Tally {
-    let sum = signed(negative, size);
-    let given = pricing::price(table, text, Node(v), d, Sum(sum));
-    tell(same_quote(given, walk, looked, want, negative))
-}
+impl Question {
+    // Whether an answer has the lookup's cells, at most ten.
+    fn is_walked(&self, given: Answer) -> bool {
+        let (number, word) = numbers(self.looked);
+        let listed = given.cells;
+        let cells = listed.at;
+        listed.count <= 10
+            && self
+                .walk
+                .same(narrow(number), narrow(word), listed.count, cells)
+    }
 
-// A question with a checked sheet.
-pub(crate) fn quotation(
-    table: &[u32],
-    sheet: &[u64; SHEET_WORDS],
-    v: u32,
-    negative: bool,
-    size: usize,
-    walk: Walk,
-    looked: Due,
-    want: Due,
-) -> Tally {
-    let sum = signed(negative, size);
-    let given = pricing::quotation(table, sheet, Node(v), Sum(sum));
-    tell(same_quote(given, walk, looked, want, negative))
+    // Whether a quote is what it is to be for a sum of a sign.
+    fn is_answered(&self, given: BandQuote, negative: bool) -> bool {
+        let answer = given.answer;
+        let money = given.cents;
+        let verdict = Verdict {
+            number: answer.number,
+            word: answer.word,
+            amount: given.amount,
+        };
+        let size = self.want.map_or(0, |due| due.cents);
+        self.is_walked(answer)
+            && same_verdict(verdict, self.want.map(|due| due.class))
+            && money.0 == signed(negative, size)
+    }
+
+    // The question asked in some way, with both signs.
+    fn both<F: Fn(Sum) -> BandQuote>(&self, ask: F) -> Tally
+        requires { F.IsAlwaysCallable ask }
+    {
+        let added = ask(Sum(signed(false, self.size)));
+        let taken = ask(Sum(signed(true, self.size)));
+        Tally::of(self.is_answered(added, false)).plus(Tally::of(self.is_answered(taken, true)))
+    }
+
+    // With a text.
+    pub(crate) fn price(&self, table: &[u32], text: &[u8]) -> Tally {
+        let (v, d) = (narrow(self.v), narrow(self.d));
+        self.both(|sum| pricing::price(table, text, Node(v), d, sum))
+    }
+
+    // With a checked sheet.
+    pub(crate) fn quotation(&self, table: &[u32], sheet: &[u64; SHEET_WORDS]) -> Tally {
+        let v = narrow(self.v);
+        self.both(|sum| pricing::quotation(table, sheet, Node(v), sum))
+    }
 }

@@ -1,24 +1,22 @@
 // What is tried of each kind of sheets: how many, and the number that they are made for.
-use sheet_samples::kinds::{
-    BROKEN, CHANGED, CUT, EMPTY, EMPTY_BELOW, FULL, FULL_FAULT, GOOD, INSIDE, LEFT_OUT, MISSING,
-    OTHER_LEVEL, SHARED, TEN_DIGITS, THREE, TWO,
-};
+use sheet_samples::kinds::Kind;
 
-// The number that every sheet of a kind has, or ANY.
-pub(crate) const ANY: usize = 1;
-
-pub(crate) fn number_of(kind: usize) -> usize {
+// The number that every sheet of a kind has, where it is made for one.
+pub(crate) fn number_of(kind: Kind) -> Option<usize> {
     match kind {
-        GOOD | TEN_DIGITS | FULL => 0,
-        MISSING | LEFT_OUT | EMPTY | EMPTY_BELOW => 14,
-        SHARED | THREE | INSIDE => 15,
-        TWO | CUT | CHANGED | OTHER_LEVEL | FULL_FAULT => ANY,
-        BROKEN => 9,
-        _ => 13,
+        Kind::Good | Kind::TenDigits | Kind::Full => Some(0),
+        Kind::Missing | Kind::LeftOut | Kind::Empty | Kind::EmptyBelow => Some(14),
+        Kind::Shared | Kind::Three | Kind::Inside => Some(15),
+        Kind::Two | Kind::Cut | Kind::Changed | Kind::OtherLevel | Kind::FullFault => None,
+        Kind::Broken => Some(9),
+        _ => Some(13),
     }
 }
 
-// How many sheets of a kind are tried.
-pub(crate) fn count_of(kind: usize) -> usize {
-    if kind < FULL { 80 } else { 4 }
+// How many sheets of a kind are tried: few of those about the most lines.
+pub(crate) fn count_of(kind: Kind) -> usize {
+    match kind {
+        Kind::Full | Kind::FullFault | Kind::Overfull | Kind::OverfullCut | Kind::FullByte => 4,
+        _ => 80,
+    }
 }

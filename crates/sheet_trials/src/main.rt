@@ -9,17 +9,18 @@ mod printed;
 mod questions;
 
 use crate::asking::{check, check_into};
-use crate::kinds::{ANY, count_of, number_of};
+use crate::kinds::{count_of, number_of};
 use crate::printed::say;
-use crate::questions::questions_with;
+use crate::questions::Sheet;
+use plain_sheets::classes::Classes;
 use plain_sheets::judging;
-use plain_sheets::judging::{Due, verdict};
 use plain_sheets::line_words::ROOM;
-use samples::cases::Case;
+use plain_steps::shape_strings;
+use samples::refusals::{Refusal, numbers};
 use samples::seeds::next;
 use samples::tally::Tally;
-use samples::words::{add, narrow, times};
-use sheet_samples::kinds::{BROKEN, KINDS};
+use samples::words::narrow;
+use sheet_samples::kinds::{KINDS, Kind};
 use sheet_samples::texts::make_text;
 use sheet_samples::trees::{asked_level, break_table, level, tree};
 use sheets::SHEET_WORDS;
@@ -28,124 +29,102 @@ use std::io;
 // What stands in the words for a checked sheet before.
 const WORD: u64 = 18446744073709551557;
 
-// The table of the list of n entries.
-fn lay(parents: &[u32], n: usize, table: &mut [u32], space: &mut [u32]) {
-    if n <= parents.len() {
-        prepare::prepare(&parents[..n], table, space);
-    }
+// The table of a list.
+fn lay(parents: &[u32], table: &mut [u32]) {
+    let mut space = [0u32; 3075];
+    prepare::prepare(parents, table, &mut space);
 }
 
 // What the check is to answer.
-fn wanted(kind: usize, text: &[u8], lines: &mut [u32], parents: &[u32], n: usize, d: usize) -> Due {
-    if kind == BROKEN {
-        return verdict(9, 0, 0);
+fn wanted(kind: Kind, text: &[u8], lines: &mut [u32], classes: Classes) -> Result<usize, Refusal> {
+    match kind {
+        Kind::Broken => Err(Refusal::Broken),
+        _ => judging::check(text, lines, classes),
     }
-    judging::check(text, lines, parents, n, d)
 }
 
-// Whether a kind of sheets has the answer that it is made for.
-fn expected(kind: usize, want: Due) -> Tally {
-    let number = number_of(kind);
-    if number == ANY {
-        return Tally::new();
+// Whether a kind of sheets has the answer that it is made for: a difference more where it has not.
+fn expected(kind: Kind, want: Result<usize, Refusal>) -> Tally {
+    let (given, _) = numbers(want);
+    match number_of(kind) {
+        Some(number) if number != given => Tally::wrong(),
+        _ => Tally::new(),
     }
-    if number == want.number {
-        return Tally::new();
-    }
-    Tally::wrong()
 }
 
 // The check of a text, and questions with it.
 fn try_text(
-    kind: usize,
+    kind: Kind,
     table: &[u32],
     text: &[u8],
-    parents: &[u32],
-    n: usize,
-    d: usize,
+    classes: Classes,
+    strings: &[u32],
     seed: usize,
 ) -> Tally {
     let mut lines = [0u32; ROOM];
-    let mut sheet = [WORD; SHEET_WORDS];
-    let want = wanted(kind, text, &mut lines, parents, n, d);
-    let first = check(table, text, narrow(d), want);
-    let second = check_into(table, text, narrow(d), want, WORD, &mut sheet);
-    let asked = questions_with(table, text, &sheet, &lines, parents, n, d, want, seed);
-    expected(kind, want).plus(first).plus(second).plus(asked)
+    let mut words = [WORD; SHEET_WORDS];
+    let d = narrow(classes.level);
+    let checked = wanted(kind, text, &mut lines, classes);
+    let first = check(table, text, d, checked);
+    let second = check_into(table, text, d, checked, WORD, &mut words);
+    let sheet = Sheet {
+        table,
+        text,
+        words: &words,
+        lines: &lines,
+        checked,
+        classes,
+        strings,
+    };
+    expected(kind, checked)
+        .plus(first)
+        .plus(second)
+        .plus(sheet.questions(seed))
 }
 
-// The same with a table of t words and a text of so many bytes.
-fn try_parts(
-    kind: usize,
-    table: &[u32],
-    t: usize,
-    text: &[u8],
-    count: usize,
-    parents: &[u32],
-    n: usize,
-    d: usize,
-    seed: usize,
-) -> Tally {
-    if t <= table.len() {
-        if count <= text.len() {
-            return try_text(kind, &table[..t], &text[..count], parents, n, d, seed);
-        }
-    }
-    Tally::wrong()
-}
-
-// A tree and its table.
-fn lay_tree(kind: usize, seed: usize, parents: &mut [u32], table: &mut [u32]) -> Case {
-    let mut space = [0u32; 3075];
-    let c = tree(kind, seed, parents);
-    lay(parents, c.n, table, &mut space);
-    c
-}
-
-// A sheet of a kind, made and tried in lent words and bytes.
-fn try_in(
-    kind: usize,
-    seed: usize,
-    parents: &mut [u32],
-    table: &mut [u32],
-    text: &mut [u8],
-) -> Tally {
-    let c = lay_tree(kind, seed, parents, table);
-    let d = level(kind, parents, c.n, seed);
-    let count = make_text(kind, text, parents, c.n, d, seed);
-    let t = break_table(kind, c.n, c.table, seed, table);
-    let asked = asked_level(kind, c.n, d, seed);
-    try_parts(kind, table, t, text, count, parents, c.n, asked, seed)
-}
-
-fn try_sheet(kind: usize, seed: usize) -> Tally {
+// A sheet of the kind of a line, made and tried.
+fn try_sheet(line: usize, strings: &[u32], seed: usize) -> Tally {
     let mut parents = [0u32; 512];
-    let mut table = [0u32; 6983];
-    let mut text = [0u8; 196608];
-    try_in(kind, seed, &mut parents, &mut table, &mut text)
+    let mut cells = [0u32; 6983];
+    let mut bytes = [0u8; 196608];
+    let case = tree(line, seed, &mut parents);
+    lay(&parents[..case.n], &mut cells);
+    let d = level(line, &parents, case.n, seed);
+    let laid = Classes {
+        parents: &parents,
+        n: case.n,
+        level: d,
+    };
+    let count = make_text(line, &mut bytes, laid, seed);
+    let t = break_table(line, case.n, case.table, seed, &mut cells);
+    let asked = Classes {
+        parents: &parents,
+        n: case.n,
+        level: asked_level(line, case.n, d, seed),
+    };
+    match (cells.get(..t), bytes.get(..count)) {
+        (Some(table), Some(text)) => try_text(Kind::at(line), table, text, asked, strings, seed),
+        _ => Tally::wrong(),
+    }
 }
 
-// All sheets of a kind.
-fn try_kind(kind: usize) -> Tally {
-    let count = count_of(kind);
+// All sheets of the kind of a line.
+fn try_kind(line: usize, strings: &[u32]) -> Tally {
     let mut tally = Tally::new();
-    let mut i = 0;
-    while i < count {
-        let seed = next(next(add(i, times(1000, kind))));
-        tally = tally.plus(try_sheet(kind, seed));
-        i += 1;
+    for i in 0..count_of(Kind::at(line)) {
+        let seed = next(next(line.wrapping_mul(1000).wrapping_add(i)));
+        tally = tally.plus(try_sheet(line, strings, seed));
     }
     tally
 }
 
 fn main(rt: HostRuntime) -> io::Result<()> {
+    let strings = shape_strings();
     let mut total = Tally::new();
-    let mut kind = 0;
-    while kind < KINDS {
-        let tally = try_kind(kind);
-        say(&rt, kind, tally)?;
+    for line in 0..KINDS {
+        let tally = try_kind(line, &strings);
+        say(&rt, line, tally)?;
         total = total.plus(tally);
-        kind += 1;
     }
     say(&rt, KINDS, total)
 }

@@ -1,7 +1,6 @@
 // A line of the output: a kind, the number of questions and the number of differences.
 use samples::fields::field;
 use samples::tally::Tally;
-use samples::words::less;
 use std::io;
 
 fn name(rt: &impl Print, line: usize) -> io::Result<()> {
@@ -12,11 +11,11 @@ fn name(rt: &impl Print, line: usize) -> io::Result<()> {
     } else if line < 29 {
         let names =
             b"eleven digits,no digits,over a word,carriage return,blank,sign,comma more,line feed more,no last line feed,cut anywhere,a byte changed,empty,empty for a deep level,lines for another level,broken table,";
-        rt.write_all(field(names, less(line, 14)))
+        rt.write_all(field(names, line.saturating_sub(14)))
     } else {
         let names =
             b"4096 lines,4096 lines with faults,4097 lines,4097 lines cut short,4096 lines and a byte,total,";
-        rt.write_all(field(names, less(line, 29)))
+        rt.write_all(field(names, line.saturating_sub(29)))
     }
 }
 
