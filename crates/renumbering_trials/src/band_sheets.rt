@@ -1,27 +1,20 @@
 // A sheet at two offices: its bands renumbered, its lines in another order.
-use crate::asking::{SUMS, asked_at, drawn_sum, other_node};
-use crate::comparing::{Count, nothing, premiums, together, without_cells};
+use crate::asking::{Offices, SUMS, sum_at};
+use crate::comparing::{Count, Pair, total};
 use crate::numbering::renumber_lines;
 use base::{Node, Sum};
+use plain_sheets::classes::Classes;
 use plain_sheets::judging;
 use plain_sheets::line_words::ROOM;
 use pricing::price;
 use samples::seeds::next;
-use samples::words::{add, narrow};
+use samples::words::narrow;
 use sheet_samples::texts::write_lines;
 use sheets::check;
 
 // How many lines a text has.
 fn lines_in(text: &[u8]) -> usize {
-    let mut count = 0;
-    let mut i = 0;
-    while i < text.len() {
-        if text[i] == b'\n' {
-            count = add(count, 1);
-        }
-        i += 1;
-    }
-    count
+    text.iter().filter(|b| **b == b'\n').count()
 }
 
 // The text of the same lines with their classes renumbered, in another order. Answers how many bytes it has.
@@ -29,188 +22,89 @@ fn rewrite(
     text: &[u8],
     other_text: &mut [u8],
     numbers: &[u32],
-    parents: &[u32],
-    n: usize,
-    d: usize,
+    classes: Classes,
     seed: usize,
 ) -> usize {
     let mut lines = [0u32; ROOM];
-    judging::check(text, &mut lines, parents, n, d);
+    let _ = judging::check(text, &mut lines, classes);
     let m = lines_in(text);
-    renumber_lines(m, numbers, n, &mut lines);
+    renumber_lines(m, numbers, &mut lines);
     write_lines(other_text, &lines, m, next(seed))
-}
-
-// The same of a text of so many bytes.
-pub(crate) fn renumber_text(
-    text: &[u8],
-    count: usize,
-    other_text: &mut [u8],
-    numbers: &[u32],
-    parents: &[u32],
-    n: usize,
-    d: usize,
-    seed: usize,
-) -> usize {
-    if count <= text.len() {
-        return rewrite(&text[..count], other_text, numbers, parents, n, d, seed);
-    }
-    0
-}
-
-// The price of a sum for v.
-fn price_of(
-    table: &[u32],
-    text: &[u8],
-    other_table: &[u32],
-    other_text: &[u8],
-    numbers: &[u32],
-    n: usize,
-    v: usize,
-    d: usize,
-    sum: Sum,
-) -> Count {
-    let depth = narrow(d);
-    let first = price(table, text, Node(narrow(v)), depth, sum);
-    let second = price(
-        other_table,
-        other_text,
-        other_node(numbers, n, v),
-        depth,
-        sum,
-    );
-    if first.amount != second.amount {
-        return without_cells(false);
-    }
-    premiums(
-        first.answer,
-        first.cents,
-        second.answer,
-        second.cents,
-        numbers,
-        n,
-    )
-}
-
-// Prices of v.
-fn prices(
-    table: &[u32],
-    text: &[u8],
-    other_table: &[u32],
-    other_text: &[u8],
-    numbers: &[u32],
-    n: usize,
-    v: usize,
-    d: usize,
-    seed: usize,
-) -> Count {
-    let mut count = nothing();
-    let mut i = 0;
-    while i < SUMS {
-        let sum = drawn_sum(i, seed, v, d);
-        count = together(
-            count,
-            price_of(table, text, other_table, other_text, numbers, n, v, d, sum),
-        );
-        i += 1;
-    }
-    count
-}
-
-// The prices of all entries, and of numbers that are none.
-fn all_prices(
-    table: &[u32],
-    text: &[u8],
-    other_table: &[u32],
-    other_text: &[u8],
-    numbers: &[u32],
-    n: usize,
-    d: usize,
-    seed: usize,
-) -> Count {
-    let most = add(n, 2);
-    let mut count = nothing();
-    let mut i = 0;
-    while i < most {
-        count = together(
-            count,
-            prices(
-                table,
-                text,
-                other_table,
-                other_text,
-                numbers,
-                n,
-                asked_at(n, i),
-                d,
-                seed,
-            ),
-        );
-        i += 1;
-    }
-    count
 }
 
 // One sheet is accepted just where the other is, and neither has a bad line.
 fn alike(first: u32, second: u32) -> bool {
-    if first == 13 {
-        return false;
-    }
-    if second == 13 {
-        return false;
-    }
-    (first == 0) == (second == 0)
+    first != 13 && second != 13 && (first == 0) == (second == 0)
 }
 
-// Both checks, of which one is to accept just where the other does, and the prices by sheets that are accepted.
-fn try_texts(
-    table: &[u32],
-    text: &[u8],
-    other_table: &[u32],
-    other_text: &[u8],
-    numbers: &[u32],
-    n: usize,
-    d: usize,
-    seed: usize,
-) -> Count {
-    let first = check(table, text, narrow(d));
-    let second = check(other_table, other_text, narrow(d));
-    let accepted = without_cells(alike(first.number, second.number));
-    if first.number != 0 {
-        return accepted;
-    }
-    together(
-        accepted,
-        all_prices(table, text, other_table, other_text, numbers, n, d, seed),
-    )
+// Two offices with sheets for a level.
+#[derive(Clone, Copy)]
+struct Sheets<'a> {
+    offices: Offices<'a>,
+    text: &'a [u8],
+    other_text: &'a [u8],
+    level: usize,
 }
 
-// The same with texts of so many bytes.
-pub(crate) fn try_parts(
-    table: &[u32],
-    text: &[u8],
-    count: usize,
-    other_table: &[u32],
-    other_text: &[u8],
-    other_count: usize,
-    numbers: &[u32],
-    n: usize,
-    d: usize,
-    seed: usize,
-) -> Count {
-    if count <= text.len() {
-        if other_count <= other_text.len() {
-            return try_texts(
-                table,
-                &text[..count],
-                other_table,
-                &other_text[..other_count],
-                numbers,
-                n,
-                d,
-                seed,
-            );
+impl<'a> Sheets<'a> {
+    // The price of a sum for v.
+    fn price_of(&self, v: usize, sum: Sum) -> Count {
+        let offices = self.offices;
+        let depth = narrow(self.level);
+        let entry = Node(narrow(v));
+        let other = offices.other_node(v);
+        let given = price(offices.table, self.text, entry, depth, sum);
+        let other_given = price(offices.other_table, self.other_text, other, depth, sum);
+        if given.amount != other_given.amount {
+            return Count::without_cells(false);
         }
+        let pair = Pair {
+            first: given.answer,
+            second: other_given.answer,
+        };
+        offices.premiums(pair, given.cents, other_given.cents)
     }
-    without_cells(false)
+
+    // The prices of all entries, and of numbers that are none.
+    fn all_prices(&self, seed: usize) -> Count {
+        let offices = self.offices;
+        total(offices.asked(), |i| {
+            let v = offices.asked_at(i);
+            total(SUMS, |i| self.price_of(v, sum_at(i, seed, v, self.level)))
+        })
+    }
+
+    // Both checks, of which one is to accept just where the other does, and the prices by sheets that are accepted.
+    fn tried(&self, seed: usize) -> Count {
+        let offices = self.offices;
+        let depth = narrow(self.level);
+        let first = check(offices.table, self.text, depth);
+        let second = check(offices.other_table, self.other_text, depth);
+        let accepted = Count::without_cells(alike(first.number, second.number));
+        if first.number != 0 {
+            return accepted;
+        }
+        accepted.plus(self.all_prices(seed))
+    }
+}
+
+// A text by the first table, and its renumbered one by the other.
+pub(crate) fn try_text(offices: Offices, text: &[u8], level: usize, seed: usize) -> Count {
+    let mut bytes = [0u8; 32768];
+    let classes = Classes {
+        parents: offices.parents,
+        n: offices.parents.len(),
+        level,
+    };
+    let count = rewrite(text, &mut bytes, offices.numbers, classes, seed);
+    let Some(other_text) = bytes.get(..count) else {
+        return Count::without_cells(false);
+    };
+    let sheets = Sheets {
+        offices,
+        text,
+        other_text,
+        level,
+    };
+    sheets.tried(seed)
 }

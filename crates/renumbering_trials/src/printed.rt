@@ -1,7 +1,6 @@
 // A line of the output: what is asked, the number of questions, of differences, of questions whose cells differ, and of those that read another number of cells.
 use crate::comparing::Count;
 use samples::fields::field;
-use samples::words::less;
 use std::io;
 
 fn name(rt: &impl Print, line: usize) -> io::Result<()> {
@@ -10,7 +9,7 @@ fn name(rt: &impl Print, line: usize) -> io::Result<()> {
             b"lists with stray words,lists with tops too many,lists without a top,lists with loops,lists of up to four words,";
         rt.write_all(field(names, line))
     } else {
-        asked(rt, less(line, 5))
+        asked(rt, line.saturating_sub(5))
     }
 }
 
@@ -22,11 +21,11 @@ fn asked(rt: &impl Print, line: usize) -> io::Result<()> {
     } else if line < 16 {
         let names =
             b"premiums of chains,premiums of stars,premiums of random trees,premiums of caterpillars,premiums of binary trees,premiums of brooms,premiums of deep trees,premiums of small trees,";
-        rt.write_all(field(names, less(line, 8)))
+        rt.write_all(field(names, line.saturating_sub(8)))
     } else {
         let names =
             b"good sheets,sheets of ten digits,sheets with an amount missing,sheets with an amount shared,sheets with an amount in three bands,sheets with a band inside another,sheets without a class,sheets with two faults,total,";
-        rt.write_all(field(names, less(line, 16)))
+        rt.write_all(field(names, line.saturating_sub(16)))
     }
 }
 

@@ -1,145 +1,93 @@
 // A tree at two offices: every entry at every level, and pairs of entries.
-use crate::asking::{asked_at, levels_of, lookups, pair, rate, sums};
-use crate::comparing::{Count, nothing, together};
-use samples::seeds::next;
-use samples::words::{add, put};
+use crate::asking::{Offices, SUMS, sum_at};
+use crate::comparing::{Count, Pair, total};
+use base::{Node, Sum};
+use premiums::premium;
+use samples::seeds::{next, pick};
+use samples::words::{narrow, put};
 
 // The most entries of a tree of which every pair is asked.
 const PAIRED: usize = 24;
 
-// The classes of v at every level.
-fn levels(
-    table: &[u32],
-    other_table: &[u32],
-    numbers: &[u32],
-    parents: &[u32],
-    n: usize,
-    v: usize,
-) -> Count {
-    let most = levels_of(parents, n, v);
-    let mut count = nothing();
-    let mut d = 0;
-    while d < most {
-        count = together(count, lookups(table, other_table, numbers, n, v, d));
-        d += 1;
+impl<'a> Offices<'a> {
+    // The classes of v at every level.
+    fn levels(&self, v: usize) -> Count {
+        total(self.levels_of(v), |d| self.lookups(v, d))
     }
-    count
+
+    // The pairs of u with every entry and with numbers that are none, in a small tree.
+    fn pairs(&self, u: usize) -> Count {
+        if PAIRED < self.parents.len() {
+            return Count::new();
+        }
+        total(self.asked(), |i| self.pair(u, self.asked_at(i)))
+    }
+
+    // The classes of all entries, and of numbers that are none.
+    pub(crate) fn all_classes(&self) -> Count {
+        total(self.asked(), |i| {
+            let v = self.asked_at(i);
+            self.levels(v).plus(self.pairs(v))
+        })
+    }
 }
 
-// The pairs of u with every entry and with numbers that are none, in a small tree.
-fn pairs(table: &[u32], other_table: &[u32], numbers: &[u32], n: usize, u: usize) -> Count {
-    let mut count = nothing();
-    if PAIRED < n {
-        return count;
-    }
-    let most = add(n, 2);
-    let mut i = 0;
-    while i < most {
-        count = together(
-            count,
-            pair(table, other_table, numbers, n, u, asked_at(n, i)),
-        );
-        i += 1;
-    }
-    count
+// Two offices with lists of rates for the same entries.
+#[derive(Clone, Copy)]
+pub(crate) struct Rated<'a> {
+    pub(crate) offices: Offices<'a>,
+    pub(crate) rates: &'a [u32],
+    pub(crate) other_rates: &'a [u32],
 }
 
-// The classes of all entries, and of numbers that are none.
-pub(crate) fn all_classes(
-    table: &[u32],
-    other_table: &[u32],
-    numbers: &[u32],
-    parents: &[u32],
-    n: usize,
-) -> Count {
-    let most = add(n, 2);
-    let mut count = nothing();
-    let mut i = 0;
-    while i < most {
-        let v = asked_at(n, i);
-        count = together(count, levels(table, other_table, numbers, parents, n, v));
-        count = together(count, pairs(table, other_table, numbers, n, v));
-        i += 1;
+impl<'a> Rated<'a> {
+    // The premium of a sum for v at level d.
+    fn premium_of(&self, v: usize, d: usize, sum: Sum) -> Count {
+        let offices = self.offices;
+        let depth = narrow(d);
+        let entry = Node(narrow(v));
+        let other = offices.other_node(v);
+        let given = premium(offices.table, self.rates, entry, depth, sum);
+        let other_given = premium(offices.other_table, self.other_rates, other, depth, sum);
+        let pair = Pair {
+            first: given.answer,
+            second: other_given.answer,
+        };
+        offices.premiums(pair, given.cents, other_given.cents)
     }
-    count
+
+    // The premiums of v at every level.
+    fn premiums_of(&self, v: usize, seed: usize) -> Count {
+        total(self.offices.levels_of(v), |d| {
+            total(SUMS, |i| self.premium_of(v, d, sum_at(i, seed, v, d)))
+        })
+    }
+
+    // The premiums of all entries, and of numbers that are none.
+    pub(crate) fn all_premiums(&self, seed: usize) -> Count {
+        let offices = self.offices;
+        total(
+            offices.asked(),
+            |i| self.premiums_of(offices.asked_at(i), seed),
+        )
+    }
 }
 
-// The premiums of v at every level.
-fn level_premiums(
-    table: &[u32],
-    rates: &[u32],
-    other_table: &[u32],
-    other_rates: &[u32],
-    numbers: &[u32],
-    parents: &[u32],
-    n: usize,
-    v: usize,
-    seed: usize,
-) -> Count {
-    let most = levels_of(parents, n, v);
-    let mut count = nothing();
-    let mut d = 0;
-    while d < most {
-        count = together(
-            count,
-            sums(
-                table,
-                rates,
-                other_table,
-                other_rates,
-                numbers,
-                n,
-                v,
-                d,
-                seed,
-            ),
-        );
-        d += 1;
+// A rate: at the limits and over them, or any.
+fn rate(seed: usize) -> usize {
+    match pick(seed, 8) {
+        0 => 0,
+        1 => 1000000,
+        2 => 1000001,
+        _ => pick(next(seed), 1000001),
     }
-    count
 }
 
-// The premiums of all entries, and of numbers that are none.
-pub(crate) fn all_premiums(
-    table: &[u32],
-    rates: &[u32],
-    other_table: &[u32],
-    other_rates: &[u32],
-    numbers: &[u32],
-    parents: &[u32],
-    n: usize,
-    seed: usize,
-) -> Count {
-    let most = add(n, 2);
-    let mut count = nothing();
-    let mut i = 0;
-    while i < most {
-        count = together(
-            count,
-            level_premiums(
-                table,
-                rates,
-                other_table,
-                other_rates,
-                numbers,
-                parents,
-                n,
-                asked_at(n, i),
-                seed,
-            ),
-        );
-        i += 1;
-    }
-    count
-}
-
-// Lays the rates of n entries.
-pub(crate) fn lay_rates(n: usize, seed: usize, rates: &mut [u32]) {
+// Lays the rates of entries.
+pub(crate) fn lay_rates(seed: usize, rates: &mut [u32]) {
     let mut s = seed;
-    let mut v = 0;
-    while v < n {
+    for v in 0..rates.len() {
         s = next(s);
         put(rates, v, rate(s));
-        v += 1;
     }
 }

@@ -1,9 +1,0 @@
--- `trees::level_premiums` is safe and ends. Assumes nothing.
-use Prim.Native.Nat.{◌-◌}
-use Rattle.renumbering_trials.proofs.trees.level_premiums.Given as goal
-
-abbrev pub invariant-loop-d : goal.invariant-loop-d
-invariant-loop-d l = Unit {0}
-
-abbrev pub decreases-loop-d : goal.decreases-loop-d
-decreases-loop-d l = l.most - l.d
