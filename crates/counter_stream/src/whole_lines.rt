@@ -9,7 +9,6 @@ ghost use Rattle.counter_stream.specs.Lines.{LineDue, LineTurned, ListDue, Turne
 use crate::phases::{Phase, State};
 use crate::workspace::Workspace;
 use base::limits::table_words;
-use base::numbers::ACCEPTED;
 use lines::reading::{Question, read_count, read_parent, read_question};
 use lines::room::MOST_LISTED;
 use lines::text::Text;
@@ -107,17 +106,16 @@ fn list_so_far(state: State, workspace: &mut Workspace<'_>) -> Stepped
     }
     // Lent as `&mut` too: a `&` to one buffer beside a `&mut` to another of the same workspace is not covered by the borrow checker's proofs.
     let list = &mut workspace.parents[..state.count as usize];
-    let reply = prepare(list, workspace.table, workspace.space);
-    if reply.number == ACCEPTED {
-        return Stepped {
+    match prepare(list, workspace.table, workspace.space) {
+        Ok(_) => Stepped {
             state: State {
                 phase: Phase::AwaitsQuestion,
                 ..state
             },
             text: header_row(),
-        };
+        },
+        Err(refusal) => Stepped::last(bad_list(refusal.number(), refusal.word())),
     }
-    Stepped::last(bad_list(reply.number, reply.word))
 }
 
 // The line of a question.

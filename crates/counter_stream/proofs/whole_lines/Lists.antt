@@ -12,7 +12,6 @@ use Rattle.tree.specs.Faults.{list_fault}
 use Rattle.table.specs.Table.{table_of}
 use Rattle.table.specs.Preparing.{count_fault, table_fault, space_fault, call_fault, refusal, preparing, Prepared}
 use Rattle.table.proofs.Outcomes.{refusal-none}
-use Rattle.base.specs.Numbers.{Says}
 use Rattle.lines.specs.Counter.{most_listed, bad_list, header_row, fault}
 use Rattle.lines.specs.Stages.{Turn, asking, listed}
 use Rattle.counter_stream.specs.declared.phases.Phase.TheVariants.{AwaitsQuestion}
@@ -29,13 +28,13 @@ refusal-fault ps t s ht hs = rw (le-ltb t (table_words (length ps)) ht, le-ltb s
     go none = refl
     go (some o) = refl
 
-refusal-some : (ps : List ℕ) (t s number word : ℕ) → Says (preparing ps t s) number word → (number ≡ 0 → ⊥) → refusal ps t s ≡ some (record { number = number; word = word })
+refusal-some : (ps : List ℕ) (t s : ℕ) (o : Outcome) → o ≡ preparing ps t s → (o.number ≡ 0 → ⊥) → refusal ps t s ≡ some o
 unfolding preparing Option-elim
-refusal-some ps t s number word says z = go (refusal ps t s) says
+refusal-some ps t s o e z = go (refusal ps t s) e
   where
-    go : (f : Option Outcome) → Says (Option-elim f (accepted (table_words (length ps))) (λ o. o)) number word → f ≡ some (record { number = number; word = word })
-    go none q = absurd (z q.0)
-    go (some o) q = ap some (ap (λ x. record { number = x; word = o.word }) (sym q.0) ∙ ap (λ x. record { number = number; word = x }) (sym q.1))
+    go : (f : Option Outcome) → o ≡ Option-elim f (accepted (table_words (length ps))) (λ o. o) → f ≡ some o
+    go none q = absurd (z (ap (λ x. x.number) q))
+    go (some p) q = ap some (sym q)
 
 -- what the list so far comes to
 abbrev turn : State → List ℕ → Turn
@@ -55,7 +54,7 @@ module _ (st : State) (b : Lent) (due : ListDue st b) (text : List ℕ) where
       }
 
   -- the list is whole, and was lent to be prepared
-  module _ (h : st.count ≤ st.filled) (whole : List ℕ) (is : whole ≡ take st.count b.parents) (number word : ℕ) (says : Says (preparing whole (length b.table) (length b.space)) number word) where
+  module _ (h : st.count ≤ st.filled) (whole : List ℕ) (is : whole ≡ take st.count b.parents) (o : Outcome) (answer : o ≡ preparing whole (length b.table) (length b.space)) where
     same : whole ≡ take st.filled b.parents
     same = let z : st.count ≡ st.filled = omega (arith, due.read) in is ∙ ap (λ k. take k b.parents) z
 
@@ -68,11 +67,11 @@ module _ (st : State) (b : Lent) (due : ListDue st b) (text : List ℕ) where
     empty : st.count - st.filled ≡ zero
     empty = omega arith
 
-    pub list-taken : number ≡ 0 → text ≡ header_row → (left : Lent) → Prepared whole left.table
+    pub list-taken : o.number ≡ 0 → text ≡ header_row → (left : Lent) → Prepared whole left.table
         → Turned (turn st b.parents) st.line (record { phase = AwaitsQuestion; line = st.line; count = st.count; filled = st.filled; held = st.held }) left text
     unfolding listed Option-elim
     list-taken z e left p =
-        let none-there : fault (take st.filled b.parents) ≡ none = sym judged ∙ refusal-none whole (length b.table) (length b.space) (sym says.0 ∙ z) in
+        let none-there : fault (take st.filled b.parents) ≡ none = sym judged ∙ refusal-none whole (length b.table) (length b.space) (ap (λ x. x.number) (sym answer) ∙ z) in
         let words : take (table_words st.count) left.table ≡ table_of (take st.filled b.parents) = ap (λ n. take (table_words n) left.table) (sym long) ∙ p.words ∙ ap table_of same in
         rw (empty, none-there) record {
           printed = e;
@@ -82,9 +81,9 @@ module _ (st : State) (b : Lent) (due : ListDue st b) (text : List ℕ) where
           lines = omega arith;
         }
 
-    pub list-refused : (number ≡ 0 → ⊥) → text ≡ bad_list (record { number = number; word = word }) → (left : Lent)
+    pub list-refused : (o.number ≡ 0 → ⊥) → text ≡ bad_list o → (left : Lent)
         → Turned (turn st b.parents) st.line end_state left text
     unfolding listed Option-elim
     list-refused z e left =
-        let there : fault (take st.filled b.parents) ≡ some (record { number = number; word = word }) = sym judged ∙ refusal-some whole (length b.table) (length b.space) number word says z in
+        let there : fault (take st.filled b.parents) ≡ some o = sym judged ∙ refusal-some whole (length b.table) (length b.space) o answer z in
         rw (empty, there) record { printed = e; stands = refl; fits = refl; fresh = refl; lines = omega arith }
