@@ -1,10 +1,7 @@
 // The counter program: a list and questions from standard input, the class of each on standard output.
 #![tactic(auto)]
 
-ghost use Rattle.counter_stream.specs.Loans.{lent_by};
-ghost use Rattle.counter_stream.specs.Pieces.{Buffers};
-
-use counter_stream::{State, Workspace, feed, finish};
+use counter_stream::{ProgramBuffers, State, Workspace, feed, finish};
 use lines::room::{LINE_ROOM, LIST_ROOM, SPACE_ROOM, TABLE_ROOM};
 use std::fmt;
 use std::io::Read;
@@ -32,13 +29,17 @@ fn main(rt: HostRuntime) {
     let mut line = [0u8; LINE_ROOM];
     let mut input = [0u8; 65536];
     let mut out = [0u8; 65536];
-    let mut workspace = Workspace {
+    let workspace = Workspace {
         line: &mut line,
         parents: &mut parents,
         table: &mut table,
         space: &mut space,
     };
-    if let Err(failure) = run(&rt, &mut input, &mut out, &mut workspace) {
+    let mut buffers = ProgramBuffers {
+        out: &mut out,
+        workspace,
+    };
+    if let Err(failure) = run(&rt, &mut input, &mut buffers) {
         let _ = eprintln!(rt; "counter: {failure}");
     }
 }
@@ -47,20 +48,17 @@ fn main(rt: HostRuntime) {
 fn run(
     rt: &(impl Input + Print),
     input: &mut [u8],
-    out: &mut [u8],
-    workspace: &mut Workspace<'_>,
-) -> Result<(), Failure>
-    requires { Buffers (lent_by workspace.old) out.old }
-{
+    buffers: &mut ProgramBuffers<'_>,
+) -> Result<(), Failure> {
     let mut reader = rt.reader();
     let mut state = State::start();
     // Nothing says that the input ends: the turns are counted, up to a number that no run reaches.
     for _ in 0..u64::MAX {
         let n = reader.read(input).map_err(|_| Failure::Unread)?;
         if n == 0 {
-            return end(rt, state, out);
+            return end(rt, state, buffers.out);
         }
-        state = piece(rt, state, &input[..n], out, workspace)?;
+        state = piece(rt, state, &input[..n], buffers)?;
         if state.is_at_end() {
             break;
         }
@@ -73,17 +71,13 @@ fn piece(
     rt: &impl Print,
     state: State,
     input: &[u8],
-    out: &mut [u8],
-    workspace: &mut Workspace<'_>,
-) -> Result<State, Failure>
-    requires { Buffers (lent_by workspace.old) out.old }
-    ensures { Buffers (lent_by workspace.new) out.new }
-{
+    buffers: &mut ProgramBuffers<'_>,
+) -> Result<State, Failure> {
     let mut state = state;
     let mut rest = input;
     while !rest.is_empty() {
-        let fed = feed(state, rest, out, workspace);
-        write(rt, &out[..fed.written])?;
+        let fed = feed(state, rest, buffers.out, &mut buffers.workspace);
+        write(rt, &buffers.out[..fed.written])?;
         state = fed.state;
         rest = &rest[fed.used..];
     }

@@ -3,10 +3,8 @@
 #![tactic(auto)]
 
 ghost use Rattle.std.specs.Prelude.{◌≤◌, length, IfOk};
-ghost use Rattle.counter_stream.specs.Loans.{lent_by};
-ghost use Rattle.counter_stream.specs.Pieces.{Buffers};
 
-use counter_stream::{State, Workspace, feed, finish};
+use counter_stream::{ProgramBuffers, State, Workspace, feed, finish};
 use lines::room::{LINE_ROOM, LIST_ROOM, SPACE_ROOM, TABLE_ROOM};
 use std::io;
 use std::io::Read;
@@ -19,13 +17,17 @@ fn main(rt: HostRuntime) -> io::Result<()> {
     let mut out = [0u8; 8192];
     let mut inputs = [0u8; 8192];
     let n = read_full(&mut rt.reader(), &mut inputs)?;
-    let mut workspace = Workspace {
+    let workspace = Workspace {
         line: &mut line,
         parents: &mut parents,
         table: &mut table,
         space: &mut space,
     };
-    all(&rt, &inputs[..n], &mut out, &mut workspace)
+    let mut buffers = ProgramBuffers {
+        out: &mut out,
+        workspace,
+    };
+    all(&rt, &inputs[..n], &mut buffers)
 }
 
 // Reads until the bytes are full or the input ends. Answers how many were read.
@@ -44,18 +46,11 @@ fn read_full<R: Read>(reader: &mut R, bytes: &mut [u8]) -> io::Result<usize>
 }
 
 // All inputs, each behind the other.
-fn all(
-    rt: &impl Print,
-    inputs: &[u8],
-    out: &mut [u8],
-    workspace: &mut Workspace<'_>,
-) -> io::Result<()>
-    requires { Buffers (lent_by workspace.old) out.old }
-{
+fn all(rt: &impl Print, inputs: &[u8], buffers: &mut ProgramBuffers<'_>) -> io::Result<()> {
     let mut rest = inputs;
     while !rest.is_empty() {
         let end = rest.iter().position(|b| *b == b';').unwrap_or(rest.len());
-        answer(rt, &rest[..end], out, workspace)?;
+        answer(rt, &rest[..end], buffers)?;
         let Some(behind) = rest.get(end + 2..) else {
             break;
         };
@@ -65,20 +60,12 @@ fn all(
 }
 
 // Gives an input, cut in its middle, and its end.
-fn answer(
-    rt: &impl Print,
-    input: &[u8],
-    out: &mut [u8],
-    workspace: &mut Workspace<'_>,
-) -> io::Result<()>
-    requires { Buffers (lent_by workspace.old) out.old }
-    ensures { Buffers (lent_by workspace.new) out.new }
-{
+fn answer(rt: &impl Print, input: &[u8], buffers: &mut ProgramBuffers<'_>) -> io::Result<()> {
     let (front, back) = input.split_at(input.len() / 2);
-    let half = piece(rt, State::start(), front, out, workspace)?;
-    let state = piece(rt, half, back, out, workspace)?;
-    let n = finish(state, out);
-    rt.write_all(&out[..n])?;
+    let half = piece(rt, State::start(), front, buffers)?;
+    let state = piece(rt, half, back, buffers)?;
+    let n = finish(state, buffers.out);
+    rt.write_all(&buffers.out[..n])?;
     rt.write_all(b";\n")
 }
 
@@ -87,13 +74,9 @@ fn piece(
     rt: &impl Print,
     state: State,
     input: &[u8],
-    out: &mut [u8],
-    workspace: &mut Workspace<'_>,
-) -> io::Result<State>
-    requires { Buffers (lent_by workspace.old) out.old }
-    ensures { Buffers (lent_by workspace.new) out.new }
-{
-    let fed = feed(state, input, out, workspace);
-    rt.write_all(&out[..fed.written])?;
+    buffers: &mut ProgramBuffers<'_>,
+) -> io::Result<State> {
+    let fed = feed(state, input, buffers.out, &mut buffers.workspace);
+    rt.write_all(&buffers.out[..fed.written])?;
     Ok(fed.state)
 }

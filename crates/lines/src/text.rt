@@ -6,7 +6,7 @@ ghost use Rattle.lines.specs.Texts.{said, row_room};
 use crate::room::ROW_ROOM;
 use std::marker::Model;
 
-// The first `count` of its bytes.
+// The first `count` of its bytes, in an array: there is no heap.
 #[derive(Drop)]
 pub struct Text {
     bytes: [u8; ROW_ROOM],

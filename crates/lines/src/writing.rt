@@ -21,7 +21,7 @@ pub fn bad_line(k: u64) -> Text
     text
 }
 
-// `list,` and the number and the name of a refused list.
+// `list,` and the number and the name of a refused list: of any number, where a `Refusal` would take fewer.
 pub fn bad_list(number: u32, word: u32) -> Text
     ensures { result ≡ bad_list (record { number = number; word = word }) }
 {
@@ -41,7 +41,7 @@ pub fn header_row() -> Text
     text
 }
 
-// A question's row: entry, depth, refusal, class or `-`, count of cells.
+// A question's row: entry, depth, refusal, class or `-`, count of cells. The refusal is a number here, for every number, as document 01's answer has it.
 pub fn reply_row(v: Node, d: u32, number: u32, word: u32, cells: u32) -> Text
     ensures { result ≡ reply_row v.0 d number word cells }
 {
