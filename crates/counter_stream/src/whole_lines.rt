@@ -9,7 +9,7 @@ ghost use Rattle.counter_stream.specs.Lines.{LineDue, LineTurned, ListDue, Turne
 use crate::phases::{Phase, State};
 use crate::workspace::Workspace;
 use base::limits::table_words;
-use lines::reading::{Question, read_count, read_parent, read_question};
+use lines::reading::{read_count, read_parent, read_question};
 use lines::room::MOST_LISTED;
 use lines::text::Text;
 use lines::writing::{bad_line, bad_list, header_row, reply_row};
@@ -124,17 +124,13 @@ fn question_line(state: State, workspace: &Workspace<'_>) -> Stepped
     requires phase { state.phase ≡ AwaitsQuestion }
     ensures { LineTurned state (lent_by workspace.now) result.state (lent_by workspace.now) result.text }
 {
-    let Some(Question { entry, depth }) = read_question(&workspace.line[..state.held]) else {
+    let Some(question) = read_question(&workspace.line[..state.held]) else {
         return Stepped::last(bad_line(state.line));
     };
-    let answer = level(&workspace.table[..table_words(state.count)], entry, depth);
-    let text = reply_row(
-        entry,
-        depth,
-        answer.number,
-        answer.word,
-        answer.cells.count as u32,
-    );
+    let table = &workspace.table[..table_words(state.count)];
+    let answer = level(table, question.entry, question.depth);
+    let cells = answer.cells.count as u32;
+    let text = reply_row(question, answer.number, answer.word, cells);
     let state = State {
         line: state.line + 1,
         held: 0,

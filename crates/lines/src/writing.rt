@@ -6,8 +6,8 @@ ghost use Rattle.lines.specs.Text.{comma, dash, decimal};
 ghost use Rattle.lines.specs.Texts.{row_room};
 ghost use Rattle.lines.specs.Counter.{bad_line, bad_list, header_row, reply_row};
 
+use crate::reading::Question;
 use crate::text::Text;
-use base::Node;
 use base::numbers::ACCEPTED;
 
 // `line,` and the number of a bad line.
@@ -41,13 +41,13 @@ pub fn header_row() -> Text
     text
 }
 
-// A question's row: entry, depth, refusal, class or `-`, count of cells. The refusal is a number here, for every number, as document 01's answer has it.
-pub fn reply_row(v: Node, d: u32, number: u32, word: u32, cells: u32) -> Text
-    ensures { result ≡ reply_row v.0 d number word cells }
+// A question's row: entry, depth, refusal, class or `-`, count of cells. The refusal is a number, for every number, as in `query::Answer`.
+pub fn reply_row(question: Question, number: u32, word: u32, cells: u32) -> Text
+    ensures { result ≡ reply_row question.entry.0 question.depth number word cells }
 {
     let mut text = Text::new();
-    text.push_field(v.0, b',');
-    text.push_field(d, b',');
+    text.push_field(question.entry.0, b',');
+    text.push_field(question.depth, b',');
     text.push_field(number, b',');
     push_class(&mut text, number, word);
     text.push_field(cells, b'\n');

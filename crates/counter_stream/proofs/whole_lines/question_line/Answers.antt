@@ -18,7 +18,7 @@ unfolding answer_row
 returns c =
     let t = c.args.workspace.now.table.now in
     let n = c.args.state.count in
-    let q = c.in-Some.field-0 in
+    let q = c.in-Some.question in
     let w : c.table_words.result ≡ table_words n = c.table_words.ensures in
     let r = c.level-answer.ensures.answer ∙ ap (λ k. answer_to (take k t) (level (length (take k t)) q.entry.0 q.depth)) w in
     question-fine c.args.state (lent_by c.args.workspace.now) (lent_by c.args.workspace.now) _ _ _ c.requires.phase _ c.in-Some.ensures (c.reply_row-text.ensures ∙ ap (λ a. reply_row q.entry.0 q.depth a.number a.word a.cells.count) r) (question-fits _ _ c.requires.phase c.requires.due.fits) (omega arith)
