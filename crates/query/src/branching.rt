@@ -20,7 +20,7 @@ pub(crate) fn child_towards(table: &[u32], u: Node, v: Node) -> Answer
             if relation.above {
                 return strictly(relation.table, u, v, relation.cells);
             }
-            Answer::new(Err(Refusal::NotAbove(u)), relation.cells.cells)
+            relation.cells.answer(Err(Refusal::NotAbove(u)))
         }
         Err(refused) => refused,
     }
@@ -31,9 +31,9 @@ fn strictly(table: Table, u: Node, v: Node, cells: Listed<4>) -> Answer
     ensures { result ≡ answer_from table.entry.words.now cells.cells (strictly (length table.entry.words.now) u.0 v.0 table.entry.n) }
 {
     if u == v {
-        return Answer::new(Err(Refusal::NotAbove(u)), cells.cells);
+        return cells.answer(Err(Refusal::NotAbove(u)));
     }
-    let got = table.read::<4, 5>(HEADER_CELLS, u.0, cells);
+    let got = table.read(HEADER_CELLS, u.0, cells);
     deeper(table, v, got.word, got.cells)
 }
 
@@ -42,7 +42,7 @@ fn deeper(table: Table, v: Node, depth: u32, cells: Listed<5>) -> Answer
     ensures { result ≡ answer_from table.entry.words.now cells.cells (deeper (length table.entry.words.now) v.0 table.entry.n depth) }
 {
     if table.n <= depth {
-        return Answer::new(Err(Refusal::Broken), cells.cells);
+        return cells.answer(Err(Refusal::Broken));
     }
     let inner = level(table.words, v, depth + 1);
     let all = with_ten(cells, inner.cells);

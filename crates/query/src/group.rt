@@ -7,7 +7,7 @@ ghost use Rattle.query.specs.Parts.{InGroup};
 use crate::ends::end;
 use crate::joining::with_jump;
 use crate::jump::from_jump;
-use crate::reading::{Asked, Listed, Table};
+use crate::reading::{Asked, Got, Listed, Table};
 use answers::{ANSWER_WORDS, Answer};
 use base::limits::{GROUP_WORDS, GROUPS, HEADER_CELLS, ORDER};
 use base::{Node, Position, Refusal};
@@ -31,10 +31,10 @@ pub(crate) fn from_group(
 {
     let table = asked.table;
     if table.n <= member.group {
-        end(Answer::new(Err(Refusal::Broken), cells.cells), words);
+        end(cells.answer(Err(Refusal::Broken)), words);
         return;
     }
-    let got = table.read::<3, 4>(
+    let got = table.read(
         HEADER_CELLS + GROUPS * table.n + GROUP_WORDS * member.group,
         1,
         cells,
@@ -56,7 +56,7 @@ fn after_shape(
 {
     let field = climbs_of(shape, member.local);
     if field.out() == 0 {
-        end(Answer::new(Err(Refusal::Broken), cells.cells), words);
+        end(cells.answer(Err(Refusal::Broken)), words);
         return;
     }
     in_group(asked, climbs, member, shape, field, cells, words);
@@ -78,7 +78,7 @@ fn in_group(
     let table = asked.table;
     let out = field.out();
     if out <= climbs {
-        let got = table.read::<4, 5>(
+        let got = table.read(
             HEADER_CELLS + GROUPS * table.n + GROUP_WORDS * member.group,
             2,
             cells,
@@ -86,7 +86,7 @@ fn in_group(
         after_parent(asked, climbs - out, Node(got.word), got.cells, words);
         return;
     }
-    let got = table.read::<4, 5>(
+    let got = table.read(
         HEADER_CELLS + GROUPS * table.n,
         GROUP_WORDS * member.group,
         cells,
@@ -107,22 +107,22 @@ fn after_position(
     ensures { words.new ≡ answer_words (answer_from table.entry.words.now cells.cells (after_position table.entry.n local position.0)) }
 {
     if table.n <= position.0 {
-        end(Answer::new(Err(Refusal::Broken), cells.cells), words);
+        end(cells.answer(Err(Refusal::Broken)), words);
         return;
     }
     let at = Position(position.0 + local);
     if table.n <= at.0 {
-        end(Answer::new(Err(Refusal::Broken), cells.cells), words);
+        end(cells.answer(Err(Refusal::Broken)), words);
         return;
     }
-    let got = table.read::<5, 6>(HEADER_CELLS + ORDER * table.n, at.0, cells);
+    let got: Got<6> = table.read(HEADER_CELLS + ORDER * table.n, at.0, cells);
     let class = Node(got.word);
     let more = got.cells;
     if table.n <= class.0 {
-        end(Answer::new(Err(Refusal::Broken), more.cells), words);
+        end(more.answer(Err(Refusal::Broken)), words);
         return;
     }
-    end(Answer::new(Ok(class.0), more.cells), words);
+    end(more.answer(Ok(class.0)), words);
 }
 
 // The group's parent p, with the climbs that are left from there.
@@ -131,14 +131,14 @@ fn after_parent(asked: Asked, left: u32, p: Node, cells: Listed<5>, words: &mut 
 {
     let table = asked.table;
     if table.n <= p.0 {
-        end(Answer::new(Err(Refusal::Broken), cells.cells), words);
+        end(cells.answer(Err(Refusal::Broken)), words);
         return;
     }
     if left == 0 {
-        end(Answer::new(Ok(p.0), cells.cells), words);
+        end(cells.answer(Ok(p.0)), words);
         return;
     }
-    let got = table.read::<5, 6>(HEADER_CELLS + table.n, p.0, cells);
+    let got = table.read(HEADER_CELLS + table.n, p.0, cells);
     after_parent_kind(asked, got.word, got.cells, words);
 }
 

@@ -17,9 +17,9 @@ pub(crate) fn from_jump(asked: Asked, jump: u32) -> Answer
     let table = asked.table;
     let cells = Listed::new();
     if jump_room(table.n) <= jump {
-        return Answer::new(Err(Refusal::Broken), cells.cells);
+        return cells.answer(Err(Refusal::Broken));
     }
-    let got = table.read::<0, 1>(HEADER_CELLS + JUMPS * table.n, RECORD_WORDS * jump, cells);
+    let got = table.read(HEADER_CELLS + JUMPS * table.n, RECORD_WORDS * jump, cells);
     after_jump_depth(asked, jump, got.word, got.cells)
 }
 
@@ -31,14 +31,14 @@ fn after_jump_depth(asked: Asked, jump: u32, depth: u32, cells: Listed<1>) -> An
 {
     let d = asked.d;
     if depth <= d {
-        return Answer::new(Err(Refusal::Broken), cells.cells);
+        return cells.answer(Err(Refusal::Broken));
     }
     let x = depth - d;
     if asked.table.n - d - 1 < x {
-        return Answer::new(Err(Refusal::Broken), cells.cells);
+        return cells.answer(Err(Refusal::Broken));
     }
     match exponent(x) {
-        None => Answer::new(Err(Refusal::Broken), cells.cells),
+        None => cells.answer(Err(Refusal::Broken)),
         Some(e) => read_ancestor(asked.table, jump, x, e, cells),
     }
 }
@@ -48,7 +48,7 @@ fn read_ancestor(table: Table, jump: u32, x: u32, e: u32, cells: Listed<1>) -> A
     requires { (jump < jump_room table.n) × (e < 20) × (2 ^ e ≤ x) }
     ensures { result ≡ answer_from table.entry.words.now cells.cells (read_ancestor table.entry.n jump x e) }
 {
-    let got = table.read::<1, 2>(
+    let got = table.read(
         HEADER_CELLS + JUMPS * table.n + RECORD_WORDS * jump + 1,
         e,
         cells,
@@ -61,9 +61,9 @@ fn after_ancestor(table: Table, missing: u32, w: Node, cells: Listed<2>) -> Answ
     ensures { result ≡ answer_from table.entry.words.now cells.cells (after_ancestor table.entry.n missing w.0) }
 {
     if table.n <= w.0 {
-        return Answer::new(Err(Refusal::Broken), cells.cells);
+        return cells.answer(Err(Refusal::Broken));
     }
-    let got = table.read::<2, 3>(HEADER_CELLS + LADPOS * table.n, w.0, cells);
+    let got = table.read(HEADER_CELLS + LADPOS * table.n, w.0, cells);
     after_ladpos(table, missing, got.word, got.cells)
 }
 
@@ -72,13 +72,13 @@ fn after_ladpos(table: Table, missing: u32, index: u32, cells: Listed<3>) -> Ans
     ensures { result ≡ answer_from table.entry.words.now cells.cells (after_ladpos table.entry.n missing index) }
 {
     if index < missing {
-        return Answer::new(Err(Refusal::Broken), cells.cells);
+        return cells.answer(Err(Refusal::Broken));
     }
     let at = index - missing;
     if LADDER_WORDS * table.n <= at {
-        return Answer::new(Err(Refusal::Broken), cells.cells);
+        return cells.answer(Err(Refusal::Broken));
     }
-    let got = table.read::<3, 4>(HEADER_CELLS + LADDERS * table.n, at, cells);
+    let got = table.read(HEADER_CELLS + LADDERS * table.n, at, cells);
     after_class(table, Node(got.word), got.cells)
 }
 
@@ -87,7 +87,7 @@ fn after_class(table: Table, w: Node, cells: Listed<4>) -> Answer
     ensures { result ≡ answer_from table.entry.words.now cells.cells (after_class table.entry.n w.0) }
 {
     if table.n <= w.0 {
-        return Answer::new(Err(Refusal::Broken), cells.cells);
+        return cells.answer(Err(Refusal::Broken));
     }
-    Answer::new(Ok(w.0), cells.cells)
+    cells.answer(Ok(w.0))
 }

@@ -10,7 +10,7 @@ use crate::ends::end;
 use crate::group::{Member, from_group};
 use crate::joining::with_jump;
 use crate::jump::from_jump;
-use crate::reading::{Asked, Entry, Listed, Table};
+use crate::reading::{Asked, Entry, Got, Listed, Table};
 use answers::{ANSWER_WORDS, Answer, Cells};
 use base::limits::{
     HEADER_CELLS, HEADER_MARK, LOCAL_SPAN, MICRO_MARK, MOST_ENTRIES, entries_of, table_words,
@@ -89,14 +89,14 @@ fn find<'a>(table: &'a [u32], v: Node, words: &mut [u32; ANSWER_WORDS]) -> Optio
     let none = Listed::new();
     let one: Listed<1> = none.push(0);
     if table.n <= v.0 {
-        end(Answer::new(Err(Refusal::Unknown(v)), one.cells), words);
+        end(one.answer(Err(Refusal::Unknown(v))), words);
         return None;
     }
-    let got = table.read::<1, 2>(HEADER_CELLS, v.0, one);
+    let got: Got<2> = table.read(HEADER_CELLS, v.0, one);
     let depth = got.word;
     let two = got.cells;
     if table.n <= depth {
-        end(Answer::new(Err(Refusal::Broken), two.cells), words);
+        end(two.answer(Err(Refusal::Broken)), words);
         return None;
     }
     Some(Entry { table, v, depth })
@@ -120,14 +120,11 @@ fn climbed(entry: Entry, climbs: Option<u32>, words: &mut [u32; ANSWER_WORDS])
     let v = entry.v;
     let cell = HEADER_CELLS + v.0;
     let Some(climbs) = climbs else {
-        end(
-            Answer::new(Err(Refusal::TooDeep(v)), first_two(cell).cells),
-            words,
-        );
+        end(first_two(cell).answer(Err(Refusal::TooDeep(v))), words);
         return;
     };
     if climbs == 0 {
-        end(Answer::new(Ok(v.0), first_two(cell).cells), words);
+        end(first_two(cell).answer(Ok(v.0)), words);
         return;
     }
     let table = entry.table;

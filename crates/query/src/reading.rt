@@ -1,11 +1,12 @@
 // A table that has passed step 1, and reading a section of it, with the cell listed.
 ghost use Rattle.std.specs.Prelude.{◌≡◌, ◌+◌, ◌^◌, ◌<◌, [], length};
 ghost use Rattle.base.specs.Limits.{Sized};
-ghost use Rattle.answers.specs.Answers.{listed, pushed};
+ghost use Rattle.base.specs.Refusals.{outcome_of};
+ghost use Rattle.answers.specs.Answers.{listed, pushed, answer_of};
 ghost use Rattle.query.specs.Reads.{Held, Reads};
 
-use answers::Cells;
-use base::Node;
+use answers::{Answer, Cells};
+use base::{Node, Refusal};
 use std::num::wrapping_add_u32;
 
 // A table of n entries: step 1 has passed its words.
@@ -67,6 +68,13 @@ impl<const K: u32> Listed<K> {
         Listed {
             cells: self.cells.push(cell),
         }
+    }
+
+    // The answer of what was found or refused after these reads.
+    pub(crate) fn answer(self, reply: Result<u32, Refusal>) -> Answer
+        ensures { result ≡ answer_of (outcome_of reply) self.entry.cells }
+    {
+        Answer::new(reply, self.cells)
     }
 }
 

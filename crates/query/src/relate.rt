@@ -6,7 +6,7 @@ ghost use Rattle.answers.specs.Steps.{opened, related, ancestry};
 ghost use Rattle.query.specs.Parts.{related_from};
 
 use crate::look::{first, opened};
-use crate::reading::{Listed, Table};
+use crate::reading::{Got, Listed, Table};
 use answers::Answer;
 use base::limits::{HEADER_CELLS, PRE, SIZE};
 use base::{Node, Position, Refusal};
@@ -23,7 +23,7 @@ pub(crate) fn at_or_above(table: &[u32], u: Node, v: Node) -> Answer
     ensures { result ≡ answer_from table.now (listed []) (ancestry (length table.now) u.0 v.0) }
 {
     match relate(table, u, v) {
-        Ok(relation) => Answer::new(Ok(u32::from(relation.above)), relation.cells.cells),
+        Ok(relation) => relation.cells.answer(Ok(u32::from(relation.above))),
         Err(refused) => refused,
     }
 }
@@ -47,10 +47,10 @@ fn related<'a>(table: Table<'a>, u: Node, v: Node, cells: Listed<1>) -> Result<R
     ensures goes { (above : ℕ → Reading) (apart : Reading) → related_from result above apart ≡ answer_from table.entry.words.now cells.cells (related u.0 v.0 above apart table.entry.n) }
 {
     if table.n <= u.0 {
-        return Err(Answer::new(Err(Refusal::Unknown(u)), cells.cells));
+        return Err(cells.answer(Err(Refusal::Unknown(u))));
     }
     if table.n <= v.0 {
-        return Err(Answer::new(Err(Refusal::Unknown(v)), cells.cells));
+        return Err(cells.answer(Err(Refusal::Unknown(v))));
     }
     Ok(compared(table, u, v, cells))
 }
@@ -62,9 +62,9 @@ fn compared<'a>(table: Table<'a>, u: Node, v: Node, cells: Listed<1>) -> Relatio
     ensures goes { (above : ℕ → Reading) (apart : Reading) → related_from (Ok result) above apart ≡ answer_from table.entry.words.now cells.cells (related u.0 v.0 above apart table.entry.n) }
 {
     let n = table.n;
-    let pre_u = table.read::<1, 2>(HEADER_CELLS + PRE * n, u.0, cells);
-    let size_u = table.read::<2, 3>(HEADER_CELLS + SIZE * n, u.0, pre_u.cells);
-    let pre_v = table.read::<3, 4>(HEADER_CELLS + PRE * n, v.0, size_u.cells);
+    let pre_u: Got<2> = table.read(HEADER_CELLS + PRE * n, u.0, cells);
+    let size_u: Got<3> = table.read(HEADER_CELLS + SIZE * n, u.0, pre_u.cells);
+    let pre_v = table.read(HEADER_CELLS + PRE * n, v.0, size_u.cells);
     Relation {
         table,
         above: holds(Position(pre_u.word), size_u.word, Position(pre_v.word)),

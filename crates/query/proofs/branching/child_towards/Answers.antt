@@ -18,7 +18,7 @@ pub returns-else-relation : goal.returns-else-relation
 unfolding branch answer_from
 returns-else-relation c =
     let goes = rw c.if-relation.false at c.in-Ok.ensures.goes _ _ in
-    rw c.new.ensures goes
+    rw c.answer.ensures goes
 
 pub returns-in-Err : goal.returns-in-Err
 unfolding branch

@@ -13,7 +13,7 @@ told false cs = refl
 
 pub returns-in-Ok : goal.returns-in-Ok
 unfolding ancestry answer_from
-returns-in-Ok c = rw (c.new.ensures, c.from.ensures) (told c.in-Ok.relation.above c.in-Ok.relation.cells.cells) ∙ c.in-Ok.ensures.goes _ _
+returns-in-Ok c = rw (c.answer.ensures, c.from.ensures) (told c.in-Ok.relation.above c.in-Ok.relation.cells.cells) ∙ c.in-Ok.ensures.goes _ _
 
 pub returns-in-Err : goal.returns-in-Err
 unfolding ancestry answer_from
