@@ -5,23 +5,21 @@ use mathlib.Core.Bool.{Bool, true, false, not, cond}
 use mathlib.Core.Option.{none, some, Option-elim, or_else}
 use Prim.Native.Nat.{ℕ, suc, ◌*◌, ◌-◌, ◌≤◌, ◌<◌}
 use native.Mathlib.Omega.{arith}
-use lib.ListN.{length, drop, replicate}
+use lib.ListN.{length, take, drop, replicate}
+use lib.Seq.{take_all, take_at, drop_at}
+use Rattle.base.specs.Lists.{view}
 use borrow.Author.Tests.{lt-ltb, le-ltb}
-use Rattle.base.specs.Numbers.{Outcome, accepted, count, short_space, stray, tops, loop, Says}
+use Rattle.base.specs.Numbers.{Outcome, accepted, count, short_space, stray, tops, loop}
 use Rattle.base.specs.Limits.{space_words, top_mark}
-use Rattle.base.proofs.Lists.{none_first, clash}
+use Rattle.base.proofs.Lists.{clash}
 use Rattle.tree.specs.Parents.{word, children}
-use Rattle.tree.specs.Forest.{order}
+use Rattle.tree.specs.Forest.{order, whole, levels}
+use Rattle.tree.proofs.Levels.{order-levels}
 use Rattle.tree.specs.Faults.{lowest, is_stray, tops_fault, meets_top, loop_fault, list_fault}
-use Rattle.tree.proofs.Forests.{full_meets}
 use Rattle.table.specs.Preparing.{count_fault, space_fault, lend_fault, judging, judged_space}
-use Rattle.judge.specs.Regions.{after, first_of}
+use Rattle.judge.specs.Regions.{after, first_of, Ordered}
 use Rattle.judge.specs.Verdict.{verdict}
 use Rattle.judge.proofs.link.Chains.{sibs, sibs-in, sibs-out, sibs-from}
-
--- a result says an outcome that the list gives
-pub says : (v o : Outcome) → v ≡ o → Says v o.number o.word
-says v o e = (sym (ap (λ x. x.number) e), sym (ap (λ x. x.word) e))
 
 module _ (ps : List ℕ) (small : length ps ≤ top_mark) where
   pub verdict-stray : (s : ℕ) → lowest ps (is_stray ps) ≡ some s → verdict ps ≡ stray s
@@ -57,9 +55,21 @@ module _ (ps : List ℕ) (small : length ps ≤ top_mark) where
         unfolding Option-elim
         verdict-loop w e = one-top ∙ rw e
 
-        pub verdict-whole : (c : ℕ) → c ≡ length (order ps) → length (order ps) ≤ length ps → length ps ≤ c → verdict ps ≡ accepted (length ps)
+        pub verdict-whole : lowest ps (λ v. not (meets_top ps v)) ≡ none → verdict ps ≡ accepted (length ps)
         unfolding Option-elim
-        verdict-whole c e s b = one-top ∙ rw (none_first (λ v. not (meets_top ps v)) (length ps) 0 (λ v x y. ap not (full_meets ps small (omega arith) v (omega arith))))
+        verdict-whole e = one-top ∙ rw e
+
+-- the first two regions, as the walk leaves them
+pub ordered : (ps o d rest : List ℕ) (c : ℕ) → length ps ≤ top_mark → c ≡ length ps → length o ≡ length ps → length d ≡ length ps → view 0 c o ≡ order ps → view 0 c d ≡ levels 0 (whole ps) → Ordered ps (o ++ (d ++ rest))
+unfolding view
+ordered ps o d rest c small e lo ld orders depths =
+    let n = length ps in
+    let all : take n o ≡ order ps = rw e at orders in
+    let deep : take n d ≡ levels 0 (whole ps) = rw e at depths in
+    record {
+      orders = take_at o (d ++ rest) n lo ∙ sym (take_all n o (omega arith)) ∙ all;
+      depths = ap (take n) (drop_at o (d ++ rest) n lo) ∙ take_at d rest n ld ∙ sym (take_all n d (omega arith)) ∙ deep ∙ sym (order-levels ps small);
+    }
 
 -- what is answered before the list is read, and else
 module _ (n len : ℕ) where

@@ -1,23 +1,23 @@
 -- The working space by its regions of n words, and what a step leaves in them. Assumes nothing.
-use Rattle.std.specs.Prelude.{◌≡◌, ◌⊎◌, List, [], ◌∷◌, map, cond, ℕ, suc, ◌*◌, ◌≤◌, ◌<◌, length, get_or, drop}
+use Rattle.std.specs.Prelude.{◌≡◌, ◌⊎◌, List, [], ◌∷◌, map, cond, ℕ, suc, ◌≤◌, ◌<◌, length, get_or, drop}
+use Rattle.std.specs.Prelude as code
 use Rattle.std.proofs.Math.Option.{Option, none, some}
+use Rattle.base.specs.declared.Node.{Node}
 use Rattle.base.specs.Lists.{places, view}
 use Rattle.base.specs.Limits.{top_mark}
 use Rattle.tree.specs.Parents.{word, depth}
 use Rattle.tree.specs.Forest.{order}
 use Rattle.tree.specs.Faults.{meets_top}
 
--- the number found, or n where there is none
-abbrev pub or_all : Option ℕ → ℕ → ℕ
-or_all none n = n
-or_all (some v) n = v
+-- an entry that the code finds, where it finds one, as its number
+abbrev pub found : code.Option Node → Option ℕ
+found (code.Some v) = some v.0
+found code.None = none
 
--- regions 2 and 3: first children and next siblings
-abbrev pub heads : List ℕ → List ℕ → List ℕ
-heads ps space = view (2 * length ps) (length ps) space
-
-abbrev pub nexts : List ℕ → List ℕ → List ℕ
-nexts ps space = view (3 * length ps) (length ps) space
+-- the word of a chain of siblings that starts with an entry, or of an empty one
+abbrev pub chain : code.Option Node → ℕ
+chain (code.Some v) = v.0
+chain code.None = top_mark
 
 -- the entries from i on whose word is v; the later siblings of j
 abbrev pub from : List ℕ → ℕ → ℕ → List ℕ

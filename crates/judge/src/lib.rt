@@ -5,7 +5,6 @@ mod faults;
 mod judging;
 mod link;
 mod lost;
-mod regions;
 mod stray;
 mod walk;
 

@@ -2,14 +2,15 @@
 use mathlib.Core.Path.{◌≡◌, refl, sym, ap, ◌∙◌}
 use mathlib.Core.List.{List}
 use mathlib.Core.Option.{Option, none, some, Option-elim}
-use Prim.Native.Nat.{ℕ, suc, ◌+◌, ◌-◌, ◌≤◌, ◌<◌}
+use Prim.Native.Nat.{ℕ, suc, ◌-◌, ◌≤◌, ◌<◌}
 use native.Mathlib.Omega.{arith}
 use lib.ListN.{length, get_or, length-map, get_or-map}
 use lib.Seq.{ext_get_or}
-use Rattle.base.specs.Lists.{view}
 use Rattle.base.proofs.Lists.{at-any}
-use Rattle.base.proofs.Views.{view-length, view-at}
-use Rattle.base.specs.Limits.{top_mark}
+use Rattle.base.specs.Limits.{most_entries, top_mark}
+use Rattle.judge.specs.Verdict.{verdict}
+use Rattle.table.proofs.Outcomes.{list-zero}
+use Rattle.tree.proofs.Theorems.{passes-iff-tree}
 use Rattle.tree.specs.Parents.{parent}
 use Rattle.tree.specs.Forest.{order, position}
 use Rattle.tree.proofs.Climbs.{parent-some}
@@ -17,6 +18,15 @@ use Rattle.tree.proofs.OneTree.{root_in}
 use Rattle.tree.proofs.Positions.{order-length, position_in, at_position, position-of, order-in}
 use Rattle.tree.proofs.Intervals.{parent-before, next-parent}
 use Rattle.prepare.specs.Arrays.{OneTree, entry_at, by_position, above_position}
+
+-- that judging finds nothing says that a list forms one tree
+pub one-tree : {ps : List ℕ} → length ps ≤ most_entries → (verdict ps).number ≡ 0 → OneTree ps
+unfolding verdict
+one-tree {ps} few e = record { few = few; tree = (passes-iff-tree ps (omega arith)).0 (list-zero ps (length ps) e) }
+
+pub judged-none : {ps : List ℕ} → OneTree ps → (verdict ps).number ≡ 0
+unfolding verdict Option-elim
+judged-none {ps} t = let few = t.few in rw ((passes-iff-tree ps (omega arith)).1 t.tree)
 
 -- position i holds entry v
 pub record Located (ps : List ℕ) (i v : ℕ) : Type 0 where
@@ -81,7 +91,7 @@ module _ {ps : List ℕ} (t : OneTree ps) where
         let (p, e, a) = next-parent ps small t.tree (i - 1) (omega arith) in
         (p, over-of p (ap (λ k. parent ps (entry_at ps k)) z ∙ e))
 
-  -- arrays, and regions of a space
+  -- arrays
   pub array-length : (f : ℕ → ℕ) (l : List ℕ) → l ≡ by_position ps f → length l ≡ length ps
   array-length f l e = ap length e ∙ length-map (order ps) f ∙ order-many
 
@@ -89,12 +99,6 @@ module _ {ps : List ℕ} (t : OneTree ps) where
   array-words f l e i h =
       ap (λ m. get_or m i 0) e ∙ at-any (by_position ps f) i 0 (f 0) (omega (arith, array-length f (by_position ps f) refl)) ∙ get_or-map f (order ps) i 0
 
-  pub region-words : (f : ℕ → ℕ) (a : ℕ) (l : List ℕ) → view a (length ps) l ≡ by_position ps f → Words ps f (λ i. get_or l (a + i) 0)
-  region-words f a l e i h = view-at a (length ps) l i (a + i) h refl ∙ array-words f (view a (length ps) l) e i h
-
   pub words-array : (f : ℕ → ℕ) (l : List ℕ) → length l ≡ length ps → Words ps f (λ i. get_or l i 0) → l ≡ by_position ps f
   words-array f l n w =
       ext_get_or 0 l (by_position ps f) (n ∙ sym (array-length f _ refl)) (λ i h. w i (omega arith) ∙ sym (array-words f _ refl i (omega arith)))
-
-  pub words-region : (f : ℕ → ℕ) (a : ℕ) (l : List ℕ) → a + length ps ≤ length l → Words ps f (λ i. get_or l (a + i) 0) → view a (length ps) l ≡ by_position ps f
-  words-region f a l b w = words-array f _ (view-length a (length ps) l b) (λ i h. sym (view-at a (length ps) l i (a + i) h refl) ∙ w i h)

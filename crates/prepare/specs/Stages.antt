@@ -1,13 +1,13 @@
--- What stands in the working space and in the table while the table is filled. In the space, each region has an array by preorder position.
+-- What stands in the working space before the table is filled, and in the table while it is.
 -- Assumes nothing.
 use Rattle.std.specs.Prelude.{◌≡◌, List, ℕ, ◌+◌, ◌*◌, ◌≤◌, length}
 use Rattle.base.specs.Lists.{below, view}
 use Rattle.base.specs.Limits.{space_words, depth_start, kind_start, ladpos_start, order_start, pre_start, size_start, ladders_start, groups_start}
 use Rattle.tree.specs.Parents.{depth}
-use Rattle.tree.specs.Forest.{size, height, order, position}
+use Rattle.tree.specs.Forest.{size, order, position}
 use Rattle.table.specs.Ladders.{lad_pos}
 use Rattle.table.specs.Table.{ladder_cells, group_cells}
-use Rattle.prepare.specs.Arrays.{OneTree, by_position, depths_of, sizes_of, aboves_of, long_position, kinds_of}
+use Rattle.prepare.specs.Arrays.{OneTree, depths_of, kinds_of}
 
 -- regions 0 and 1: the preorder and the depths of a list that forms one tree
 pub record Walked (ps space : List ℕ) : Type 0 where
@@ -15,27 +15,6 @@ pub record Walked (ps space : List ℕ) : Type 0 where
   pub room : length space ≡ space_words (length ps)
   pub orders : view 0 (length ps) space ≡ order ps
   pub depths : view (length ps) (length ps) space ≡ depths_of ps
-
--- region 3: the positions of the entries above
-pub record Parented (ps space : List ℕ) : Type 0 where
-  pub walked : Walked ps space
-  pub aboves : view (3 * length ps) (length ps) space ≡ aboves_of ps
-
--- regions 4 and 5: the heights, and the positions to which the long paths continue
-pub record Pathed (ps space : List ℕ) : Type 0 where
-  pub parented : Parented ps space
-  pub heights : view (4 * length ps) (length ps) space ≡ by_position ps (height ps)
-  pub longs : view (5 * length ps) (length ps) space ≡ by_position ps (long_position ps)
-
--- region 2: the sizes
-pub record Measured (ps space : List ℕ) : Type 0 where
-  pub pathed : Pathed ps space
-  pub sizes : view (2 * length ps) (length ps) space ≡ sizes_of ps
-
--- region 2 with LADPOS by position in place of the sizes
-pub record Placed (ps space : List ℕ) : Type 0 where
-  pub pathed : Pathed ps space
-  pub places : view (2 * length ps) (length ps) space ≡ by_position ps (lad_pos ps)
 
 -- KIND, SIZE and GROUPS
 pub record Familied (ps table : List ℕ) : Type 0 where

@@ -6,26 +6,23 @@ ghost use Rattle.tree.specs.Parents.{depth};
 ghost use Rattle.table.specs.Groups.{jump_nodes, jump_record};
 ghost use Rattle.table.specs.Ladders.{lad_pos};
 ghost use Rattle.table.specs.Table.{ladder_cells};
-ghost use Rattle.prepare.specs.Arrays.{OneTree, order_of, kinds_of, ancestors_end};
+ghost use Rattle.prepare.specs.Arrays.{OneTree, kinds_of, ancestors_end};
 
+use crate::order::Preorder;
 use crate::places::RECORD_WORDS;
+use base::Node;
 use base::limits::MICRO_MARK;
-use base::powers::{LargestPower, exponent};
-use base::{Node, Position};
+use base::powers::exponent;
 
 // The jump entries, in preorder: of the entries of size over 7 that lead to one jump entry, that entry stands last.
-pub(crate) fn jump_nodes(parents: &[u32], order: &[u32], kind: &[u32], cells: &mut [u32])
-    requires { OneTree parents.now × (order.now ≡ order_of parents.now) × (kind.now ≡ kinds_of parents.now) × (length cells.old ≡ length parents.now) }
-    ensures { take (length (jump_nodes group_limit parents.now)) cells.new ≡ jump_nodes group_limit parents.now }
+pub(crate) fn jump_nodes(tree: Preorder, kinds: &[u32], cells: &mut [u32])
+    requires { (kinds.now ≡ kinds_of tree.parents.now) × (length cells.old ≡ length tree.parents.now) }
+    ensures { take (length (jump_nodes group_limit tree.entry.parents.now)) cells.new ≡ jump_nodes group_limit tree.entry.parents.now }
 {
-    let mut next = Position(0);
-    while (next.0 as usize) < parents.len() {
-        let at = next;
-        next = Position(at.0 + 1);
-        let v = Node(order[at.0 as usize]);
-        let k = kind[v.0 as usize];
+    for v in tree.order {
+        let k = kinds[*v as usize];
         if k < MICRO_MARK {
-            cells[k as usize] = v.0;
+            cells[k as usize] = *v;
         }
     }
 }
@@ -48,8 +45,7 @@ pub(crate) fn record(
     let mut w = v;
     let mut s: u32 = 1;
     let mut t: u32 = 1;
-    let mut e: usize = 1;
-    while e < RECORD_WORDS {
+    for e in 1..RECORD_WORDS {
         if end <= e {
             return r;
         }
@@ -58,7 +54,6 @@ pub(crate) fn record(
         r[e] = w.0;
         s = t;
         t += t;
-        e += 1;
     }
     r
 }
@@ -68,7 +63,7 @@ fn ancestors_end(deep: u32) -> usize
     ensures { result ≡ ancestors_end deep }
 {
     match exponent(deep) {
-        LargestPower::None => 1,
-        LargestPower::Exponent(e) => e as usize + 2,
+        Some(e) => e as usize + 2,
+        None => 1,
     }
 }

@@ -7,59 +7,44 @@ mod jumps;
 mod kinds;
 mod laying;
 mod measure;
-mod parts;
+mod order;
 mod places;
 mod records;
-mod regions;
 mod sections;
 mod spread;
 
-ghost use Rattle.std.specs.Prelude.{◌≡◌, ◌↔◌, [], ◌∷◌, true, ◌≤◌, length};
+ghost use Rattle.std.specs.Prelude.{◌≡◌, ◌↔◌, [], ◌∷◌, true, ◌≤◌, length, IsOk, OnOk};
 ghost use Rattle.base.specs.Lists.{has};
 ghost use Rattle.base.specs.Limits.{most_entries, table_words, space_words};
-ghost use Rattle.base.specs.Numbers.{Says};
+ghost use Rattle.base.specs.Refusals.{outcome_of};
 ghost use Rattle.tree.specs.Faults.{Tree};
 ghost use Rattle.table.specs.Preparing.{preparing, table_after, space_after, Prepared};
 
-use crate::places::REGIONS;
-use base::limits::table_words;
-use base::numbers::{ACCEPTED, COUNT, SHORT_TABLE};
-use base::{Reply, clear};
+use base::limits::{REGIONS, table_words};
+use base::{Refusal, clear};
 use judge::{countable, preorder};
 
-// The table of a parent list (0 names W), or why there is none. A refusal leaves the table unchanged; the space is left zero where it was used, and else
-// unchanged.
-pub fn prepare(parents: &[u32], table: &mut [u32], space: &mut [u32]) -> Reply
-    ensures answer { Says (preparing parents.now (length table.old) (length space.old)) result.number result.word }
-    ensures numbers { has (0 ∷ 1 ∷ 2 ∷ 3 ∷ 4 ∷ 5 ∷ 6 ∷ []) result.number ≡ true }
+// The table of a parent list (W, where there is one), or why there is none. A refusal leaves the table unchanged; the space is left zero where it was used, and
+// else unchanged.
+pub fn prepare(parents: &[u32], table: &mut [u32], space: &mut [u32]) -> Result<u32, Refusal>
+    ensures answer { outcome_of result ≡ preparing parents.now (length table.old) (length space.old) }
+    ensures numbers { has (0 ∷ 1 ∷ 2 ∷ 3 ∷ 4 ∷ 5 ∷ 6 ∷ []) (outcome_of result).number ≡ true }
     ensures written { table.new ≡ table_after parents.now table.old space.old }
     ensures left { space.new ≡ space_after parents.now table.old space.old }
-    ensures accepts { (result.number ≡ 0) ↔ ((1 ≤ length parents.now) × (length parents.now ≤ most_entries) × Tree parents.now × (table_words (length parents.now) ≤ length table.old) × (space_words (length parents.now) ≤ length space.old)) }
-    ensures prepared { result.number ≡ 0 → Prepared parents.now table.new }
+    ensures accepts { IsOk result ↔ ((1 ≤ length parents.now) × (length parents.now ≤ most_entries) × Tree parents.now × (table_words (length parents.now) ≤ length table.old) × (space_words (length parents.now) ≤ length space.old)) }
+    ensures prepared { OnOk result (Prepared parents.now table.new) }
 {
     let n = parents.len();
     if !countable(n) {
-        return Reply {
-            number: COUNT,
-            word: 0,
-        };
+        return Err(Refusal::Count);
     }
     let w = table_words(n as u32);
     if table.len() < w {
-        return Reply {
-            number: SHORT_TABLE,
-            word: 0,
-        };
+        return Err(Refusal::ShortTable);
     }
-    let found = preorder(parents, space);
-    if found.number != ACCEPTED {
-        return found;
-    }
-    let m = REGIONS * n;
-    filling::fill_table(parents, &mut table[0..w], &mut space[0..m]);
+    preorder(parents, space)?;
+    let m = REGIONS as usize * n;
+    filling::fill_table(parents, &mut table[..w], &mut space[..m]);
     clear(space, m);
-    Reply {
-        number: ACCEPTED,
-        word: w as u32,
-    }
+    Ok(w as u32)
 }

@@ -1,4 +1,4 @@
-// Where the sections of the table and the regions of the working space start, as multiples of n, and the words of an entry in LADDERS, of a group and of a record.
+// Where the sections of the table start, as multiples of n, and the words of an entry in LADDERS, of a group and of a record.
 use base::limits;
 
 // The header, and the sections behind it.
@@ -23,22 +23,3 @@ pub(crate) const LADDER_WORDS: usize = limits::LADDER_WORDS as usize;
 pub(crate) const GROUP_WORDS: usize = limits::GROUP_WORDS as usize;
 
 pub(crate) const RECORD_WORDS: usize = limits::RECORD_WORDS as usize;
-
-// The regions behind the preorder and the depths, each with a word for each position: sizes, the positions of the entries above, heights, the positions of
-// the long children. The positions on a climb stand before the heights in their place; LADPOS by position, and then the list of the jump entries, take that of
-// the sizes.
-pub(crate) const SIZES: usize = 2;
-
-pub(crate) const PLACES: usize = 2;
-
-pub(crate) const JUMP_NODES: usize = 2;
-
-pub(crate) const ABOVES: usize = 3;
-
-pub(crate) const CLIMB: usize = 4;
-
-pub(crate) const HEIGHTS: usize = 4;
-
-pub(crate) const LONGS: usize = 5;
-
-pub(crate) const REGIONS: usize = limits::REGIONS as usize;

@@ -1,17 +1,24 @@
 -- `class` meets its contract. Assumes nothing.
+use mathlib.Core.Path.{refl, ap, ◌∙◌}
+use mathlib.Core.List.{[], ◌∷◌}
+use Rattle.base.specs.Lists.{has}
 use lib.ListN.{length}
-use Rattle.answers.specs.Answers.{outcome}
-use Rattle.class_example.proofs.Classes.{asked, handed-on}
+use Rattle.std.proofs.lemmas.Result.{err_from_is_err_and}
+use Rattle.base.proofs.RefusalNumbers.{refused-numbered}
+use Rattle.class_example.proofs.Classes.{asked, handed-on, class-numbers}
 use Rattle.class_example.proofs.class.Goals as goal
 
-pub returns-then-reply-eq-ACCEPTED : goal.returns-then-reply-eq-ACCEPTED
-returns-then-reply-eq-ACCEPTED c =
+pub returns-in_err-prepare : goal.returns-in_err-prepare
+returns-in_err-prepare c =
     let ps = c.args.parents.now in
-    let p = c.prepare-reply in
-    let z = c.if-reply-eq-ACCEPTED.true in
-    record { answer = asked ps (length c.args.table.now) (length c.args.space.now) c.args.v.0 c.args.d _ _ p.ensures.answer z (outcome c.level-answer.result) (c.level-answer.ensures.right ps (p.ensures.prepared z)); written = p.ensures.written; left = p.ensures.left }
+    let e = c.in_err-prepare.ensures in
+    let p = err_from_is_err_and c.from_residual.result c.from_residual.ensures.1 in
+    rw (p.1, p.2) (record { answer = handed-on ps (length c.args.table.now) (length c.args.space.now) c.args.v.0 c.args.d _ e.answer (refused-numbered c.in_err-prepare.field-0.0); written = e.written; left = e.left })
 
 pub returns : goal.returns
 returns c =
-    let p = c.prepare-reply in
-    record { answer = handed-on c.args.parents.now (length c.args.table.now) (length c.args.space.now) c.args.v.0 c.args.d _ _ p.ensures.answer c.if-reply-eq-ACCEPTED.false; written = p.ensures.written; left = p.ensures.left }
+    let ps = c.args.parents.now in
+    let p = c.in_ok-prepare.ensures in
+    let e = c.level.ensures.right ps p.prepared in
+    let n = ap (λ o. has (0 ∷ 7 ∷ 8 ∷ []) o.number) e ∙ class-numbers ps c.args.v.0 c.args.d in
+    record { answer = c.told.ensures n ∙ asked ps (length c.args.table.now) (length c.args.space.now) c.args.v.0 c.args.d _ p.answer refl _ e; written = p.written; left = p.left }

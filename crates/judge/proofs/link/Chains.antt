@@ -1,20 +1,20 @@
 -- Chains of siblings, linked one entry after another. Assumes nothing.
-use mathlib.Core.Path.{◌≡◌, sym, ◌∙◌}
+use mathlib.Core.Path.{◌≡◌, sym, ap, ◌∙◌}
 use mathlib.Core.Logic.{◌≢◌}
 use mathlib.Core.List.{List, [], ◌∷◌}
 use mathlib.Core.Bool.{cond}
-use Prim.Native.Nat.{ℕ, zero, suc, ◌+◌, ◌*◌, ◌≤◌, ◌<◌}
+use Prim.Native.Nat.{ℕ, zero, suc, ◌+◌, ◌≤◌, ◌<◌}
 use native.Mathlib.Omega.{arith}
 use native.Mathlib.Decide.{ℕ_discrete}
-use lib.ListN.{length, get_or, set, drop_of_length-le}
+use lib.ListN.{length, get_or, set, replicate, drop_of_length-le}
+use Rattle.std.proofs.lemmas.List.{get_or-replicate}
 use lib.Seq.{drop-cons, get_or-set_same, get_or-set_other}
 use lib.Dec.{eqb, ltb}
 use borrow.Author.Tests.{eq-eqb, ne_eqb, lt-ltb, le-ltb}
 use Rattle.base.specs.Lists.{places}
 use Rattle.base.specs.Limits.{top_mark}
 use Rattle.tree.specs.Parents.{word}
-use Rattle.judge.specs.Regions.{from, after, first_of, Linked, heads, nexts}
-use Rattle.base.proofs.Views.{view-length, view-at, view-set, view-before, view-past}
+use Rattle.judge.specs.Regions.{from, after, first_of, Linked}
 
 -- what holds of the stored value at its place, and of the others where they are, holds after the store
 pub at_set : (P : ℕ → Type 0) (l : List ℕ) (j a k : ℕ) → j < length l → (k ≡ j → P a) → (k ≢ j → P (get_or l k 0)) → P (get_or (set l j a) k 0)
@@ -87,23 +87,12 @@ link-top ps i k head next r e below lh ln own small l =
       tops = rw (from-own ps k top_mark below own);
     }
 
--- the same in the regions of one working space
-module _ (ps space : List ℕ) (small : length ps ≤ top_mark) (room : 6 * length ps ≤ length space) where
-  pub link-below-in : (i k a q p r : ℕ) → suc k ≡ i → k < length ps → a ≡ 2 * length ps + p → q ≡ 3 * length ps + k → p ≡ get_or ps k 0 → p < length ps
-      → Linked ps i (heads ps space) (nexts ps space) r
-      → Linked ps k (heads ps (set (set space q (get_or space a 0)) a k)) (nexts ps (set (set space q (get_or space a 0)) a k)) r
-  link-below-in i k a q p r e b ea eq ep h l =
-      rw (
-        view-set (2 * length ps) (length ps) (set space q (get_or space a 0)) p a k h ea,
-        view-past (2 * length ps) (length ps) space q (get_or space a 0) (omega arith),
-        view-before (3 * length ps) (length ps) (set space q (get_or space a 0)) a k (omega arith),
-        view-set (3 * length ps) (length ps) space k q (get_or space a 0) b eq,
-        view-at (2 * length ps) (length ps) space p a h ea,
-      )
-      (link-below ps i k p (heads ps space) (nexts ps space) r e b (view-length (2 * length ps) (length ps) space (omega arith)) (view-length (3 * length ps) (length ps) space (omega arith)) ep h small l)
-
-  pub link-top-in : (i k q r : ℕ) → suc k ≡ i → k < length ps → q ≡ 3 * length ps + k → word ps k ≡ top_mark → Linked ps i (heads ps space) (nexts ps space) r
-      → Linked ps k (heads ps (set space q r)) (nexts ps (set space q r)) k
-  link-top-in i k q r e b eq own l =
-      rw (view-past (2 * length ps) (length ps) space q r (omega arith), view-set (3 * length ps) (length ps) space k q r b eq)
-      (link-top ps i k (heads ps space) (nexts ps space) r e b (view-length (2 * length ps) (length ps) space (omega arith)) (view-length (3 * length ps) (length ps) space (omega arith)) own small l)
+-- none is linked: every chain is empty
+pub link-none : (ps : List ℕ) (head next : List ℕ) → head ≡ replicate (length ps) top_mark → Linked ps (length ps) head next top_mark
+link-none ps head next e =
+    let n = length ps in
+    record {
+      heads = λ v h. ap (λ l. get_or l v 0) e ∙ get_or-replicate n v top_mark 0 h ∙ rw (from_end ps n v (omega arith));
+      nexts = λ j h k. absurd (omega arith);
+      tops = rw (from_end ps n top_mark (omega arith));
+    }

@@ -3,25 +3,24 @@ use mathlib.Core.Path.{◌≡◌, refl, sym, ap, ◌∙◌}
 use mathlib.Core.Logic.{◌⊎◌, inl, inr}
 use mathlib.Core.List.{List}
 use mathlib.Core.Bool.{Bool, true, false, not, cond}
-use mathlib.Core.Option.{some}
-use Prim.Native.Nat.{ℕ, ◌+◌, ◌*◌, ◌≤◌, ◌<◌}
+use mathlib.Core.Option.{none}
+use Prim.Native.Nat.{ℕ, ◌+◌, ◌≤◌, ◌<◌}
 use native.Mathlib.Omega.{arith}
-use native.Mathlib.Decide.{ℕ_discrete, dec_lt}
+use native.Mathlib.Decide.{ℕ_discrete}
 use lib.ListN.{length, get_or, set}
 use lib.Dec.{eqb}
 use borrow.Author.Tests.{not-false}
-use Rattle.base.specs.Lists.{below, first, place, view}
-use Rattle.base.proofs.Lists.{clash, first-none}
+use Rattle.base.specs.Lists.{below, first, place}
+use Rattle.base.proofs.Lists.{clash, first-none, none_first}
 use Rattle.base.proofs.Counts.{one}
 use Rattle.base.proofs.Places.{place-stands}
 use Rattle.base.specs.Limits.{top_mark}
 use Rattle.tree.specs.Forest.{order}
 use Rattle.tree.specs.Faults.{lowest, meets_top}
-use Rattle.tree.proofs.Forests.{order-once, order-short, order-meets, meets-full}
-use Rattle.judge.specs.Regions.{or_all, Marked}
+use Rattle.tree.proofs.Forests.{order-once, order-short, order-meets, full_meets, meets-full}
+use Rattle.judge.specs.Regions.{Marked}
 use Rattle.judge.proofs.link.Chains.{at_set}
-use Rattle.judge.proofs.Searches.{found_some, found_none, first-same}
-use Rattle.base.proofs.Views.{view-length, view-at, view-set, view-past}
+use Rattle.judge.proofs.Searches.{first-same}
 
 -- the first i of the preorder are marked, and no entry is that does not meet the top
 pub record MarkedTo (ps : List ℕ) (i : ℕ) (marks : List ℕ) : Type 0 where
@@ -64,32 +63,15 @@ module _ (ps : List ℕ) (small : length ps ≤ top_mark) where
         go true = refl
         go false = refl
 
-    pub lost-is : (r : ℕ) → length (order ps) < length ps → r ≡ or_all (first (λ v. eqb (get_or marks v 0) 0) (below (length marks) (λ v. v))) (length marks)
-        → (r < length ps) × (lowest ps (λ v. not (meets_top ps v)) ≡ some r)
-    lost-is r few e = go (dec_lt r (length ps))
-      where
-        is : r ≡ or_all (lowest ps (λ v. not (meets_top ps v))) (length ps)
-        is = rw s at e ∙ ap (λ o. or_all o (length ps)) (first-same (λ v. eqb (get_or marks v 0) 0) (λ v. not (meets_top ps v)) (length ps) 0 (λ v h. zero-lost v (omega arith)))
+    pub lost-is : first (λ v. eqb (get_or marks v 0) 0) (below (length marks) (λ v. v)) ≡ lowest ps (λ v. not (meets_top ps v))
+    lost-is = rw s (first-same (λ v. eqb (get_or marks v 0) 0) (λ v. not (meets_top ps v)) (length ps) 0 (λ v h. zero-lost v (omega arith)))
 
-        all : length ps ≤ r → (v : ℕ) → v < length ps → meets_top ps v ≡ true
-        all h v b = not-false _ (first-none (λ u. not (meets_top ps u)) (length ps) 0 (found_none (λ u. not (meets_top ps u)) (length ps) r is h) v (omega arith) (omega arith))
+  -- of a preorder of all entries none is lost
+  pub none-lost : length ps ≤ length (order ps) → lowest ps (λ v. not (meets_top ps v)) ≡ none
+  none-lost h =
+      let e : length (order ps) ≡ length ps = omega (arith, order-short ps small) in
+      none_first (λ v. not (meets_top ps v)) (length ps) 0 (λ v x y. ap not (full_meets ps small e v (omega arith)))
 
-        go : Dec (r < length ps) → (r < length ps) × (lowest ps (λ v. not (meets_top ps v)) ≡ some r)
-        go (no h) = absurd (omega (arith, meets-full ps small (all (omega arith))))
-        go (yes h) = (h, found_some (λ v. not (meets_top ps v)) (length ps) r is h)
-
--- a mark more, in one working space
-module _ (ps space : List ℕ) (small : length ps ≤ top_mark) (room : 6 * length ps ≤ length space) (count i : ℕ) (b : i < count) (c : count ≡ length (order ps)) (o : view 0 count space ≡ order ps) where
-  word-is : get_or space i 0 ≡ get_or (order ps) i 0
-  word-is = view-at 0 count space i i b (omega arith) ∙ ap (λ l. get_or l i 0) o
-
-  pub word_low : get_or space i 0 < length ps
-  word_low = rw word-is (order-meets ps small i (omega arith)).0
-
-  pub order-kept : (q : ℕ) → q ≡ 5 * length ps + get_or space i 0 → view 0 count (set space q 1) ≡ order ps
-  order-kept q e = view-past 0 count space q 1 (omega (arith, order-short ps small)) ∙ o
-
-  pub mark-in : (q : ℕ) → q ≡ 5 * length ps + get_or space i 0 → MarkedTo ps i (view (5 * length ps) (length ps) space) → MarkedTo ps (i + 1) (view (5 * length ps) (length ps) (set space q 1))
-  mark-in q e m =
-      rw (view-set (5 * length ps) (length ps) space (get_or space i 0) q 1 word_low e)
-      (mark-more ps small (view (5 * length ps) (length ps) space) i (get_or space i 0) (omega arith) word-is (view-length (5 * length ps) (length ps) space (omega arith)) m)
+  -- where none is, the preorder is of all entries
+  pub all-met : lowest ps (λ v. not (meets_top ps v)) ≡ none → length (order ps) ≡ length ps
+  all-met e = meets-full ps small (λ v h. not-false _ (first-none (λ u. not (meets_top ps u)) (length ps) 0 e v (omega arith) (omega arith)))

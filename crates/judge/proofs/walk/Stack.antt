@@ -1,18 +1,18 @@
 -- The walk's state: what is written, and what the pending chains will give. Assumes nothing.
 use mathlib.Core.Path.{◌≡◌, refl, ap}
 use mathlib.Core.List.{List, [], ◌∷◌, ◌++◌, append_assoc, append-nil}
-use Prim.Native.Nat.{ℕ, zero, suc, ◌+◌, ◌*◌, ◌-◌, ◌≤◌, ◌<◌}
+use Prim.Native.Nat.{ℕ, zero, suc, ◌+◌, ◌-◌, ◌≤◌, ◌<◌}
 use native.Mathlib.Omega.{arith}
-use lib.ListN.{length, get_or, set, length-append, length-set}
+use lib.ListN.{length, get_or, set, length-append}
 use Rattle.base.specs.Lists.{view}
 use Rattle.base.specs.Limits.{top_mark}
 use Rattle.tree.specs.Parents.{word, children}
 use Rattle.tree.specs.Forest.{Forest, empty, node, plant, grow, preorder, levels, whole, order}
 use Rattle.tree.proofs.Preorders.{whole-more}
 use Rattle.tree.proofs.Forests.{order-short}
-use Rattle.judge.specs.Regions.{after, first_of, Linked, heads, nexts}
+use Rattle.judge.specs.Regions.{after, first_of, Linked}
 use Rattle.judge.proofs.link.Chains.{sibs, sibs-in, sibs-out, sibs-from}
-use Rattle.base.proofs.Views.{view-length, view-at, view-before, view-past, view-more, view-push}
+use Rattle.base.proofs.Views.{view-length, view-more, view-push}
 
 -- the forest of a chain with d chains pending behind it: it hangs that deep
 abbrev hangs : List ℕ → ℕ → ℕ → Forest
@@ -82,55 +82,26 @@ module _ (ps : List ℕ) (small : length ps ≤ top_mark) where
       pub walk-room : length out < length ps
       walk-room = omega (arith, walk-fits (out ++ c ∷ []) (deep ++ length st ∷ []) (get_or head c 0 ∷ get_or next c 0 ∷ st) walk-emit, length-append out (c ∷ []))
 
--- the same in one working space: a word of the preorder, its depth, and the entry's later siblings are stored
-module _ (ps space : List ℕ) (small : length ps ≤ top_mark) (room : 6 * length ps ≤ length space) (f : ℕ) (l : Linked ps 0 (heads ps space) (nexts ps space) f)
-    (count sp c : ℕ) (h : c < length ps) (b : 4 * length ps ≤ sp) (t : sp ≤ 5 * length ps) (d : 5 * length ps ≤ sp + count) (e : count ≤ length ps)
-    (w : Walked ps (view 0 count space) (view (length ps) count space) (c ∷ view sp (5 * length ps - sp) space)) where
-  few : length (view sp (5 * length ps - sp) space) ≤ length (view 0 count space)
-  few = omega (arith, view-length sp (5 * length ps - sp) space (omega arith), view-length 0 count space (omega arith))
+-- the same in the regions: a word of the preorder, its depth, and the entry's later siblings are stored
+module _ (ps order depths pending head next : List ℕ) (small : length ps ≤ top_mark) (lo : length order ≡ length ps) (ld : length depths ≡ length ps) (lp : length pending ≡ length ps)
+    (f : ℕ) (l : Linked ps 0 head next f) (count sp c : ℕ) (h : c < length ps) (t : sp ≤ length ps) (d : length ps ≤ sp + count) (e : count ≤ length ps)
+    (w : Walked ps (view 0 count order) (view 0 count depths) (c ∷ view sp (length ps - sp) pending)) where
+  few : length (view sp (length ps - sp) pending) ≤ length (view 0 count order)
+  few = omega (arith, view-length sp (length ps - sp) pending (omega arith), view-length 0 count order (omega arith))
 
   pub room_in : count < length ps
   room_in =
-      omega (arith, walk-room ps small (heads ps space) (nexts ps space) f l (view 0 count space) (view (length ps) count space) (view sp (5 * length ps - sp) space) c h few w, view-length 0 count space (omega arith))
+      omega (arith, walk-room ps small head next f l (view 0 count order) (view 0 count depths) (view sp (length ps - sp) pending) c h few w, view-length 0 count order (omega arith))
 
-  module _ (at deep j a n : ℕ) (et : at ≡ length ps + count) (ed : deep ≡ 5 * length ps - sp) (ej : suc j ≡ sp) (ea : a ≡ 2 * length ps + c) (en : n ≡ 3 * length ps + c) where
-    abbrev two : List ℕ
-    two = set (set space count c) at deep
-
-    abbrev after-emit : List ℕ
-    after-emit = set two j (get_or space n 0)
-
-    pub linked-in : Linked ps 0 (heads ps after-emit) (nexts ps after-emit) f
-    linked-in =
-        let r = room_in in
-        rw (
-          view-past (2 * length ps) (length ps) two j (get_or space n 0) (omega arith),
-          view-before (2 * length ps) (length ps) (set space count c) at deep (omega arith),
-          view-before (2 * length ps) (length ps) space count c (omega arith),
-          view-past (3 * length ps) (length ps) two j (get_or space n 0) (omega arith),
-          view-before (3 * length ps) (length ps) (set space count c) at deep (omega arith),
-          view-before (3 * length ps) (length ps) space count c (omega arith),
-        )
-        l
-
-    pub emit-in : Walked ps (view 0 (count + 1) after-emit) (view (length ps) (count + 1) after-emit) (get_or space a 0 ∷ view j (5 * length ps - j) after-emit)
-    emit-in =
-        let r = room_in in
-        let m : 6 * length ps ≤ length (set space count c) = simp length-set room in
-        let m2 : 6 * length ps ≤ length two = simp length-set room in
-        let ed2 : deep ≡ length (view sp (5 * length ps - sp) space) = omega (arith, view-length sp (5 * length ps - sp) space (omega arith)) in
-        rw (
-          view-past 0 (count + 1) two j (get_or space n 0) (omega arith),
-          view-past 0 (count + 1) (set space count c) at deep (omega arith),
-          view-more 0 count space count c (omega arith) (omega arith),
-          view-past (length ps) (count + 1) two j (get_or space n 0) (omega arith),
-          view-more (length ps) count (set space count c) at deep (omega arith) et,
-          view-before (length ps) count space count c r,
-          view-push j sp (5 * length ps) two (get_or space n 0) ej t (omega arith),
-          view-before sp (5 * length ps - sp) (set space count c) at deep (omega arith),
-          view-before sp (5 * length ps - sp) space count c (omega arith),
-          view-at (2 * length ps) (length ps) space c a h ea,
-          view-at (3 * length ps) (length ps) space c n h en,
-          ed2,
-        )
-        (walk-emit ps small (heads ps space) (nexts ps space) f l (view 0 count space) (view (length ps) count space) (view sp (5 * length ps - sp) space) c h few w)
+  pub emit-in : (j deep : ℕ) → deep ≡ length ps - sp → suc j ≡ sp
+      → Walked ps (view 0 (count + 1) (set order count c)) (view 0 (count + 1) (set depths count deep)) (get_or head c 0 ∷ view j (length ps - j) (set pending j (get_or next c 0)))
+  emit-in j deep ed ej =
+      let r = room_in in
+      let ed2 : deep ≡ length (view sp (length ps - sp) pending) = omega (arith, view-length sp (length ps - sp) pending (omega arith)) in
+      rw (
+        view-more 0 count order count c (omega arith) (omega arith),
+        view-more 0 count depths count deep (omega arith) (omega arith),
+        view-push j sp (length ps) pending (get_or next c 0) ej t (omega arith),
+        ed2,
+      )
+      (walk-emit ps small head next f l (view 0 count order) (view 0 count depths) (view sp (length ps - sp) pending) c h few w)

@@ -3,7 +3,7 @@ use mathlib.Core.Path.{◌≡◌, sym, ap, ◌∙◌}
 use mathlib.Core.Logic.{◌⊎◌, inl, inr}
 use mathlib.Core.List.{List}
 use mathlib.Core.Option.{some, none-ne-some, some-injective}
-use Prim.Native.Nat.{ℕ, suc, ◌+◌, ◌*◌, ◌-◌, ◌≤◌, ◌<◌}
+use Prim.Native.Nat.{ℕ, suc, ◌+◌, ◌-◌, ◌≤◌, ◌<◌}
 use native.Mathlib.Omega.{arith}
 use borrow.Author.Count.{below_more}
 use lib.ListN.{length, get_or, set}
@@ -14,10 +14,8 @@ use Rattle.tree.specs.Forest.{position}
 use Rattle.tree.specs.Level.{Ancestor}
 use Rattle.tree.proofs.Depths.{depth-top, depth-parent, up_depth}
 use Rattle.tree.proofs.Intervals.{ancestor-first, ancestor-trans, next-parent, depth-less}
-use Rattle.prepare.specs.Arrays.{OneTree, entry_at, above_position}
-use Rattle.prepare.specs.Stages.{Walked, Parented}
-use Rattle.prepare.proofs.Preorder.{Located, small, entries-some, located-at, no-parent, above-first, above_parent, region-words, words-region}
-use Rattle.prepare.proofs.Space.{walked-set}
+use Rattle.prepare.specs.Arrays.{OneTree, entry_at, above_position, depths_of, aboves_of}
+use Rattle.prepare.proofs.Preorder.{Located, small, entries-some, located-at, no-parent, above-first, above_parent, array-words, words-array}
 
 -- f has, by depth, the position of each entry on the climb from the entry at a position
 abbrev pub RootPath : List ℕ → ℕ → (ℕ → ℕ) → Type 0
@@ -64,84 +62,57 @@ module _ {ps : List ℕ} (t : OneTree ps) where
             same (depth ps u) low ∙ r u (ancestor-trans ps (small t) t.tree u over.0 (entry_at ps i) b' over.2)
 
 -- ABOVE is there for the positions before i, and the climb from the last of them by depth
-pub record AboveTo (ps : List ℕ) (i : ℕ) (space : List ℕ) : Type 0 where
-  pub walked : Walked ps space
+pub record AboveTo (ps : List ℕ) (i : ℕ) (aboves climb : List ℕ) : Type 0 where
   pub some : 0 < i
-  pub most : i ≤ length ps
-  pub aboves : (k : ℕ) → k < i → get_or space (3 * length ps + k) 0 ≡ above_position ps (entry_at ps k)
-  pub path : RootPath ps (i - 1) (λ k. get_or space (4 * length ps + k) 0)
+  pub above : (k : ℕ) → k < i → get_or aboves k 0 ≡ above_position ps (entry_at ps k)
+  pub path : RootPath ps (i - 1) (λ k. get_or climb k 0)
 
-pub above-start : {ps space : List ℕ} → Walked ps space → AboveTo ps 1 (set (set space (3 * length ps) top_mark) (4 * length ps) 0)
-above-start {ps} {space} w =
-    let t = w.one in
-    let n = length ps in
-    let some = entries-some t in
-    let s₁ = set space (3 * n) top_mark in
-    let w₁ : Walked ps s₁ = walked-set (3 * n) top_mark (omega arith) (omega arith) w in
-    let z : 3 * n + 0 ≡ 3 * n = omega arith in
-    let y : 4 * n + 0 ≡ 4 * n = omega arith in
-    let first : get_or (set s₁ (4 * n) 0) (3 * n + 0) 0 ≡ above_position ps (entry_at ps 0) =
-    rw z (get_or-set_other s₁ (4 * n) (3 * n) 0 0 (λ q. omega arith) ∙ get_or-set_same space (3 * n) top_mark 0 (omega (arith, w.room))) ∙ sym (above-first t) in
-    record {
-      walked = walked-set (4 * n) 0 (omega arith) (omega arith) w₁;
-      some = omega arith;
-      most = some;
-      aboves = λ k h. let q : k ≡ 0 = omega arith in rw q first;
-      path = path-first t (λ k. get_or (set s₁ (4 * n) 0) (4 * n + k) 0) (rw y (get_or-set_same s₁ (4 * n) 0 0 (omega (arith, w₁.room))));
-    }
-
--- one position further, of that depth, where `over` is read from the climb
-module _ {ps space : List ℕ} {i : ℕ} (a : AboveTo ps i space) (h : i < length ps) where
-  own-depth : get_or space (length ps + i) 0 ≡ depth ps (entry_at ps i)
-  own-depth = region-words a.walked.one (depth ps) (length ps) space a.walked.depths i h
-
-  back : suc (i - 1) ≡ i
-  back = omega (arith, a.some)
-
-  abbrev climb : ℕ → ℕ
-  climb k = get_or space (4 * length ps + k) 0
-
-  pub depth-some : 0 < get_or space (length ps + i) 0
-  depth-some =
-      let t = a.walked.one in
-      let d = deeper t (i - 1) (omega (arith, back)) climb a.path in
-      omega (arith, own-depth, rw back at d)
-
-  pub depth-few : get_or space (length ps + i) 0 < length ps
-  depth-few = let t = a.walked.one in omega (arith, own-depth, depth-less ps (small t) t.tree (entry_at ps i) (located-at t i h).inside)
-
-  above-is : climb (get_or space (length ps + i) 0 - 1) ≡ above_position ps (entry_at ps i)
-  above-is = rw own-depth (rw back at (path-above a.walked.one (i - 1) (omega (arith, back)) climb a.path))
-
-  pub above-next : (over : ℕ) → over ≡ climb (get_or space (length ps + i) 0 - 1)
-      → AboveTo ps (i + 1) (set (set space (3 * length ps + i) over) (4 * length ps + get_or space (length ps + i) 0) i)
-  above-next over e =
-      let t = a.walked.one in
-      let n = length ps in
-      let d = get_or space (n + i) 0 in
-      let few : d < n = depth-few in
-      let s₁ = set space (3 * n + i) over in
-      let s₂ = set s₁ (4 * n + d) i in
-      let w₁ : Walked ps s₁ = walked-set (3 * n + i) over (omega arith) (omega arith) a.walked in
-      let before : (k : ℕ) → k < i → get_or s₂ (3 * n + k) 0 ≡ above_position ps (entry_at ps k) =
-      λ k l. get_or-set_other s₁ (4 * n + d) (3 * n + k) i 0 (λ q. omega arith) ∙ get_or-set_other space (3 * n + i) (3 * n + k) over 0 (λ q. omega arith) ∙ a.aboves k l in
-      let here : get_or s₂ (3 * n + i) 0 ≡ above_position ps (entry_at ps i) =
-      get_or-set_other s₁ (4 * n + d) (3 * n + i) i 0 (λ q. omega arith) ∙ get_or-set_same space (3 * n + i) over 0 (omega (arith, a.walked.room)) ∙ e ∙ above-is in
-      let own : get_or s₂ (4 * n + depth ps (entry_at ps i)) 0 ≡ i = rw (← own-depth) (get_or-set_same s₁ (4 * n + d) i 0 (omega (arith, w₁.room))) in
-      let same : (k : ℕ) → k < depth ps (entry_at ps i) → get_or s₂ (4 * n + k) 0 ≡ climb k =
-      λ k l. get_or-set_other s₁ (4 * n + d) (4 * n + k) i 0 (λ q. omega (arith, own-depth)) ∙ get_or-set_other space (3 * n + i) (4 * n + k) over 0 (λ q. omega arith) in
-      let z : i + 1 - 1 ≡ suc (i - 1) = omega (arith, a.some) in
+module _ {ps : List ℕ} (t : OneTree ps) (aboves climb : List ℕ) (la : length aboves ≡ length ps) (lc : length climb ≡ length ps) where
+  pub above-start : AboveTo ps 1 (set aboves 0 top_mark) (set climb 0 0)
+  above-start =
+      let some = entries-some t in
+      let first : get_or (set aboves 0 top_mark) 0 0 ≡ above_position ps (entry_at ps 0) = get_or-set_same aboves 0 top_mark 0 (omega (arith, la)) ∙ sym (above-first t) in
       record {
-        walked = walked-set (4 * n + d) i (omega arith) (omega arith) w₁;
         some = omega arith;
-        most = omega arith;
-        aboves = below_more _ i before here;
-        path = rw z (path-next t (i - 1) (omega (arith, back)) climb a.path (λ k. get_or s₂ (4 * n + k) 0) (rw back (own)) (rw back same));
+        above = λ k h. let q : k ≡ 0 = omega arith in rw q first;
+        path = path-first t (λ k. get_or (set climb 0 0) k 0) (get_or-set_same climb 0 0 0 (omega (arith, lc)));
       }
 
--- at the end, all
-pub above-all : {ps space : List ℕ} {i : ℕ} → length ps ≤ i → AboveTo ps i space → Parented ps space
-above-all {ps} {space} b a = record {
-  walked = a.walked;
-  aboves = words-region a.walked.one (above_position ps) (3 * length ps) space (omega (arith, a.walked.room)) (λ k h. a.aboves k (omega arith));
-}
+  -- at the end, all
+  pub above-all : {i : ℕ} → length ps ≤ i → AboveTo ps i aboves climb → aboves ≡ aboves_of ps
+  above-all b a = words-array t (above_position ps) aboves la (λ k h. a.above k (omega arith))
+
+  -- one position further, of that depth, where `over` is read from the climb
+  module _ {depths : List ℕ} (e : depths ≡ depths_of ps) {i : ℕ} (a : AboveTo ps i aboves climb) (h : i < length ps) where
+    own-depth : get_or depths i 0 ≡ depth ps (entry_at ps i)
+    own-depth = array-words t (depth ps) depths e i h
+
+    back : suc (i - 1) ≡ i
+    back = omega (arith, a.some)
+
+    pub depth-some : 0 < get_or depths i 0
+    depth-some =
+        let d = deeper t (i - 1) (omega (arith, back)) (λ k. get_or climb k 0) a.path in
+        omega (arith, own-depth, rw back at d)
+
+    pub depth-few : get_or depths i 0 < length ps
+    depth-few = omega (arith, own-depth, depth-less ps (small t) t.tree (entry_at ps i) (located-at t i h).inside)
+
+    above-is : get_or climb (get_or depths i 0 - 1) 0 ≡ above_position ps (entry_at ps i)
+    above-is = rw own-depth (rw back at (path-above t (i - 1) (omega (arith, back)) (λ k. get_or climb k 0) a.path))
+
+    pub above-next : AboveTo ps (i + 1) (set aboves i (get_or climb (get_or depths i 0 - 1) 0)) (set climb (get_or depths i 0) i)
+    above-next =
+        let d = get_or depths i 0 in
+        let over = get_or climb (d - 1) 0 in
+        let few : d < length ps = depth-few in
+        let before : (k : ℕ) → k < i → get_or (set aboves i over) k 0 ≡ above_position ps (entry_at ps k) = λ k l. get_or-set_other aboves i k over 0 (λ q. omega arith) ∙ a.above k l in
+        let here : get_or (set aboves i over) i 0 ≡ above_position ps (entry_at ps i) = get_or-set_same aboves i over 0 (omega (arith, la)) ∙ above-is in
+        let own : get_or (set climb d i) (depth ps (entry_at ps i)) 0 ≡ i = rw (← own-depth) (get_or-set_same climb d i 0 (omega (arith, lc))) in
+        let same : (k : ℕ) → k < depth ps (entry_at ps i) → get_or (set climb d i) k 0 ≡ get_or climb k 0 = λ k l. get_or-set_other climb d k i 0 (λ q. omega (arith, own-depth)) in
+        let z : i + 1 - 1 ≡ suc (i - 1) = omega (arith, a.some) in
+        record {
+          some = omega arith;
+          above = below_more _ i before here;
+          path = rw z (path-next t (i - 1) (omega (arith, back)) (λ k. get_or climb k 0) a.path (λ k. get_or (set climb d i) k 0) (rw back own) (rw back same));
+        }

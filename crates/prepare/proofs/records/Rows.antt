@@ -5,15 +5,15 @@ use mathlib.Core.List.{List, [], ◌∷◌, ◌++◌, flat_map}
 use Prim.Native.Nat.{ℕ, ◌+◌, ◌*◌, ◌-◌, ◌≤◌, ◌<◌}
 use native.Mathlib.Omega.{arith}
 use native.Mathlib.Numerals.{add-one}
-use borrow.Rule.Slice.PartMut.{mid_len, mid_of, put_mid}
+use borrow.Rule.Slice.PartMut.{mid_of, put_mid}
 use lib.ListN.{length, get_or, take, replicate, length-replicate, length-take}
 use lib.Seq.{take_all, take-suc}
-use Rattle.base.specs.Lists.{view, put, padded}
+use Rattle.base.specs.Lists.{put, padded}
 use Rattle.base.specs.Limits.{group_limit, header_of, jump_room, record_words, table_words}
 use Rattle.base.proofs.Lists.{below_at, drop-zeros}
 use Rattle.base.proofs.Places.{stands}
 use Rattle.base.proofs.Filters.{keep-in}
-use Rattle.base.proofs.Puts.{lent_back, put-length, put_view, put-inside, put-none, put-more, put-over, lent, came-filled, stays}
+use Rattle.base.proofs.Puts.{put-length, put_view, put-none, put-more, put-over, came-filled, stays}
 use Rattle.base.proofs.Rows.{rows-length, rows_more}
 use Rattle.base.proofs.Views.{view-at}
 use Rattle.tree.specs.Parents.{depth}
@@ -98,21 +98,6 @@ module _ {ps t : List ℕ} (one : OneTree ps) (s : Sectioned ps t) (long : lengt
       let v = get_or (jump_nodes group_limit ps) i 0 in
       let k = keep-in (jump_node group_limit ps) v (order ps) (stands v (jump_nodes group_limit ps) i h refl) in
       (position-before ps (small one) one.tree v (length (order ps)) (rw (take_all (length (order ps)) (order ps) (omega arith)) k.1)).0
-
-  -- the list as it is lent from region 2
-  pub nodes-lent : (space cells : List ℕ) (jumps : ℕ) → length space ≡ 6 * length ps → length cells ≡ length (mid_of (2 * length ps) (3 * length ps - 2 * length ps) space) → jumps ≡ length (jump_nodes group_limit ps)
-      → take (length (jump_nodes group_limit ps)) cells ≡ jump_nodes group_limit ps
-      → mid_of (2 * length ps) (2 * length ps + jumps - 2 * length ps) (put_mid (2 * length ps) (3 * length ps - 2 * length ps) space cells) ≡ jump_nodes group_limit ps
-  unfolding view
-  nodes-lent space cells jumps ls lc e l =
-      let z : 2 * length ps + 0 ≡ 2 * length ps = omega arith in
-      let n = mid_len (2 * length ps) (3 * length ps) space (omega arith) in
-      lent (2 * length ps) (2 * length ps + jumps) jumps _ _ refl
-      (ap (view (2 * length ps) jumps) (lent_back (2 * length ps) (3 * length ps) space cells cells refl (omega arith))
-      ∙ ap (λ a. view a jumps (put space (2 * length ps) cells)) (sym z)
-      ∙ put-inside space (2 * length ps) cells (omega arith) 0 jumps (omega (arith, nodes-few.1))
-      ∙ ap (λ k. take k cells) e
-      ∙ l)
 
   -- JUMPS wiped, and what the records then ask
   abbrev first : ℕ

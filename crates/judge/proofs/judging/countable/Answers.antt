@@ -1,18 +1,17 @@
 -- `judging::countable` meets its contract. Assumes nothing.
+use mathlib.Core.Path.{◌≡◌}
 use native.Mathlib.Omega.{arith}
-use borrow.Author.Tests.{eq-eqb, ne_eqb, lt-ltb, le-ltb}
-use Rattle.base.specs.Limits.{most_entries}
+use Rattle.std.proofs.lemmas.Bool.Decides.{nat_tests}
+use borrow.Author.Tests.{ne_eqb}
 use Rattle.table.specs.Preparing.{count_fault}
 use Rattle.judge.proofs.judging.countable.Goals as goal
 
-pub returns-then-n-eq0 : goal.returns-then-n-eq0
+pub returns-then-n-ge1 : goal.returns-then-n-ge1
 unfolding count_fault
-returns-then-n-eq0 c = rw (eq-eqb c.args.n 0 c.if-n-eq0.true)
+returns-then-n-ge1 c =
+    let some : c.args.n ≡ 0 → ⊥ = λ e. omega arith in
+    rw (ne_eqb c.args.n 0 some) (grind (arith, nat_tests))
 
-pub returns-then-n-gt-MOST : goal.returns-then-n-gt-MOST
+pub returns-else-n-ge1 : goal.returns-else-n-ge1
 unfolding count_fault
-returns-then-n-gt-MOST c = rw (ne_eqb c.args.n 0 c.if-n-eq0.false, lt-ltb most_entries c.args.n c.if-n-gt-MOST.true)
-
-pub returns : goal.returns
-unfolding count_fault
-returns c = rw (ne_eqb c.args.n 0 c.if-n-eq0.false, le-ltb most_entries c.args.n (omega (arith, c.if-n-gt-MOST.false)))
+returns-else-n-ge1 c = let z : c.args.n ≡ 0 = omega arith in rw z

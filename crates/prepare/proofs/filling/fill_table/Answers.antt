@@ -1,40 +1,34 @@
 -- `fill_table` meets its contract. Assumes nothing.
-use mathlib.Core.Path.{◌≡◌, ◌∙◌}
-use native.Mathlib.Omega.{arith}
-use lib.ListN.{length}
+use mathlib.Core.Path.{◌≡◌, ap, ◌∙◌}
+use lib.ListN.{length, take}
+use Rattle.base.specs.Lists.{view}
 use Rattle.base.specs.Limits.{table_words}
+use Rattle.prepare.specs.Arrays.{order_of, depths_of}
+use Rattle.prepare.proofs.Preorder.{judged-none}
 use Rattle.prepare.proofs.records.Rows.{finished}
 use Rattle.prepare.proofs.filling.fill_table.Goals as goal
-use Rattle.prepare.proofs.filling.fill_table.Goals.{After-order_sections, After-path_sections-paths}
+use Rattle.prepare.proofs.filling.fill_table.Goals.{After-split_at_mut-heights}
 
-kept : (p : After-path_sections-paths) → length p.path_sections-paths.new.table ≡ length p.args.table.now
-kept p = p.path_sections-paths.auto.table ∙ p.family_sections-counts.auto.table
+orders : (c : After-split_at_mut-heights) → c.split_at_mut-order.result.0.now ≡ order_of c.args.parents.now
+unfolding view
+orders c = c.split_at_mut-order.ensures.front ∙ c.requires.0.orders
 
-wide : (o : After-order_sections) → (length o.order_sections.new.table ≡ table_words (length o.args.parents.now))
-wide o = o.order_sections.auto.table ∙ kept (goal.at.After-order_sections o).After-path_sections-paths ∙ o.requires.1
+depths : (c : After-split_at_mut-heights) → c.split_at_mut-depths.result.0.now ≡ depths_of c.args.parents.now
+unfolding view
+depths c = c.split_at_mut-depths.ensures.front ∙ ap (take (length c.args.parents.now)) c.split_at_mut-order.ensures.back ∙ c.requires.0.depths
 
-pub order_sections-requires : goal.order_sections-requires
-order_sections-requires c =
-    let made = c.path_sections-paths.ensures in
-    (made.kept, kept (goal.at.order_sections-requires c).After-path_sections-paths ∙ c.requires.1, made.laid.0, made.laid.1)
+pub above-requires : goal.above-requires
+above-requires c =
+    (c.requires.0.one, depths (goal.at.above-requires c).After-split_at_mut-heights, c.split_at_mut-aboves.ensures.front_len, c.split_at_mut-heights.ensures.front_len)
 
-pub jump_section-requires : goal.jump_section-requires
-jump_section-requires c =
-    (c.path_sections-paths.ensures.kept, c.order_sections.ensures, wide (goal.at.jump_section-requires c).After-order_sections, c.family_sections-counts.ensures.counts.1)
-
-pub header_cells-requires : goal.header_cells-requires
-header_cells-requires c =
-    (c.path_sections-paths.ensures.kept.one.few, omega (arith, c.jump_section.auto.table, wide (goal.at.header_cells-requires c).After-order_sections))
+pub invariant_of-tree : goal.invariant_of-tree
+invariant_of-tree c =
+    let s = (goal.at.invariant_of-tree c).After-split_at_mut-heights in
+    record { few = c.requires.0.one.few; judged = judged-none c.requires.0.one; orders = orders s; deep = depths s; over = c.above.ensures }
 
 pub returns : goal.returns
 returns c =
     let counts = c.family_sections-counts.ensures.counts in
-    let made = c.path_sections-paths.ensures in
-    finished made.kept.one c.order_sections.ensures (wide (goal.at.returns c).After-order_sections) _ _ _ _ _ counts.1 counts.0 made.paths c.jump_section.ensures c.header_cells.ensures
-
-pub shape_of-table : goal.shape_of-table
-shape_of-table c =
-    c.header_cells.auto.table ∙ c.jump_section.auto.table ∙ c.order_sections.auto.table ∙ kept (goal.at.shape_of-table c).After-path_sections-paths
-
-pub shape_of-space : goal.shape_of-space
-shape_of-space c = c.jump_section.auto.space ∙ c.path_sections-paths.auto.space ∙ c.measure.auto.space
+    let wide : length c.order_sections.new.table ≡ table_words (length c.args.parents.now)
+    = c.order_sections.auto.table ∙ c.path_sections-paths.auto.table ∙ c.family_sections-counts.auto.table ∙ c.requires.1 in
+    finished c.requires.0.one c.order_sections.ensures wide _ _ _ _ _ counts.1 counts.0 c.path_sections-paths.ensures.paths c.jump_section.ensures c.header_cells.ensures

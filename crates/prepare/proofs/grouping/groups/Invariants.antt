@@ -16,7 +16,12 @@ pub record Turn (parents size cells : List ℕ) (cell next : ℕ) : Type 0 where
   pub used : cell ≤ 3 * next
 
 abbrev pub invariant-loop-next : goal.invariant-loop-next
-invariant-loop-next l = (l.next.0 ≤ length l.parents) × Turn l.parents l.size l.cells l.cell l.next.0 × GroupsBefore l.parents l.initial.cells l.next.0 l.cell l.cells
+invariant-loop-next l =
+    record {
+      within : l.next.0 ≤ length l.sizes;
+      turn : Turn l.tree.parents.now l.sizes l.cells l.cell l.next.0;
+      groups : GroupsBefore l.tree.parents.now l.initial.cells l.next.0 l.cell l.cells;
+    }
 
 abbrev pub decreases-loop-next : goal.decreases-loop-next
-decreases-loop-next l = length l.parents - l.next.0
+decreases-loop-next l = length l.sizes - l.next.0

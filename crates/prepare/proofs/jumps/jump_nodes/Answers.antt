@@ -1,55 +1,53 @@
--- `jumps::jump_nodes` meets its contract: the jump entries among the positions before the next stand in the first cells, in preorder. Assumes nothing.
-use mathlib.Core.Path.{◌≡◌, sym, ap, ◌∙◌}
+-- `jumps::jump_nodes` meets its contract: the jump entries among the positions gone over stand in the first cells, in preorder. Assumes nothing.
+use mathlib.Core.Path.{◌≡◌, ap, ◌∙◌}
 use Prim.Native.Nat.{◌<◌}
 use native.Mathlib.Omega.{arith}
-use lib.ListN.{length, get_or, length-set}
+use lib.ListN.{length, get_or}
 use Rattle.base.specs.Limits.{group_limit}
 use Rattle.base.proofs.Lists.{below_at, each-length}
 use Rattle.table.specs.Groups.{kind}
-use Rattle.prepare.specs.Arrays.{entry_at}
-use Rattle.prepare.proofs.Preorder.{order-many, located-at}
-use Rattle.prepare.proofs.jumps.Nodes.{jumps-none, jumps-all, node-room, jumps-macro, jumps-micro}
+use Rattle.prepare.specs.Arrays.{OneTree, entry_at}
+use Rattle.prepare.proofs.Preorder.{one-tree, order-many, located-at}
+use Rattle.prepare.proofs.jumps.Nodes.{jumps-none, node-room, jumps-macro, jumps-micro}
 use Rattle.prepare.proofs.jumps.jump_nodes.Goals as goal
-use Rattle.prepare.proofs.jumps.jump_nodes.Goals.{In-loop-next}
+use Rattle.prepare.proofs.jumps.jump_nodes.Goals.{Start, In-loop-v, then-k-lt-MICRO_MARK, else-k-lt-MICRO_MARK}
 
--- a turn, once it has read its entry and its kind
-abbrev Read : Type 0
-Read = In-loop-next
+one : (c : Start) → OneTree c.args.tree.parents.now
+one c = one-tree c.args.tree.few c.args.tree.judged
 
-here : (r : Read) → r.loop-next.next.0 < length r.args.parents.now
-here r = omega (arith, r.loop-next-test.true)
+many : (c : Start) → length c.args.tree.order.now ≡ length c.args.tree.parents.now
+many c = ap length c.args.tree.orders ∙ order-many (one c)
 
-entry : (r : Read) → get_or r.args.order.now r.loop-next.next.0 0 ≡ entry_at r.args.parents.now r.loop-next.next.0
-entry r = ap (λ l. get_or l r.loop-next.next.0 0) r.requires.1
+here : (r : In-loop-v) → r.loop-v.v-index < length r.args.tree.parents.now
+here r = omega (arith, many (goal.at.In-loop-v r).Start)
 
-pub bounds-kind-v : goal.bounds-kind-v
-bounds-kind-v r =
-    omega (arith, entry (goal.at.bounds-kind-v r).In-loop-next, (located-at r.requires.0 r.loop-next.next.0 (here (goal.at.bounds-kind-v r).In-loop-next)).inside, ap length r.requires.2 ∙ each-length (length r.args.parents.now) 0 (kind group_limit r.args.parents.now))
+entry : (r : In-loop-v) → get_or r.args.tree.order.now r.loop-v.v-index 0 ≡ entry_at r.args.tree.parents.now r.loop-v.v-index
+entry r = ap (λ l. get_or l r.loop-v.v-index 0) r.args.tree.orders
 
-word : (r : Read) → get_or r.args.kind.now (get_or r.args.order.now r.loop-next.next.0 0) 0 ≡ kind group_limit r.args.parents.now (entry_at r.args.parents.now r.loop-next.next.0)
+inside : (r : In-loop-v) → get_or r.args.tree.order.now r.loop-v.v-index 0 < length r.args.tree.parents.now
+inside r = omega (arith, entry r, (located-at (one (goal.at.In-loop-v r).Start) r.loop-v.v-index (here r)).inside)
+
+word : (r : In-loop-v) → get_or r.args.kinds.now (get_or r.args.tree.order.now r.loop-v.v-index 0) 0 ≡ kind group_limit r.args.tree.parents.now (entry_at r.args.tree.parents.now r.loop-v.v-index)
 word r =
-    let h = (located-at r.requires.0 r.loop-next.next.0 (here r)).inside in
-    ap (λ l. get_or l (get_or r.args.order.now r.loop-next.next.0 0) 0) r.requires.2 ∙ below_at _ (kind group_limit r.args.parents.now) 0 _ (omega (arith, entry r, h)) ∙ ap (kind group_limit r.args.parents.now) (entry r)
+    ap (λ l. get_or l (get_or r.args.tree.order.now r.loop-v.v-index 0) 0) r.requires.0 ∙ below_at _ (kind group_limit r.args.tree.parents.now) 0 _ (inside r) ∙ ap (kind group_limit r.args.tree.parents.now) (entry r)
 
-pub loop-next-preserved-then-k-lt-MICRO_MARK : goal.loop-next-preserved-then-k-lt-MICRO_MARK
-loop-next-preserved-then-k-lt-MICRO_MARK c =
-    let l = c.loop-next in
-    (omega (arith, here (goal.at.loop-next-preserved-then-k-lt-MICRO_MARK c).In-loop-next), l.invariant.1, length-set l.cells _ _ ∙ l.invariant.2, jumps-macro c.requires.0 c.loop-next.next.0 (here (goal.at.loop-next-preserved-then-k-lt-MICRO_MARK c).In-loop-next) _ (word (goal.at.loop-next-preserved-then-k-lt-MICRO_MARK c).In-loop-next) l.cells l.invariant.3 _ (entry (goal.at.loop-next-preserved-then-k-lt-MICRO_MARK c).In-loop-next) l.invariant.2 c.if-k-lt-MICRO_MARK.true)
+pub loop-v-init : goal.loop-v-init
+loop-v-init s = jumps-none s.args.tree.parents.now s.args.cells.now
 
-pub loop-next-preserved : goal.loop-next-preserved
-loop-next-preserved c =
-    let l = c.loop-next in
-    (omega (arith, here (goal.at.loop-next-preserved c).In-loop-next), l.invariant.1, l.invariant.2, jumps-micro c.requires.0 c.loop-next.next.0 (here (goal.at.loop-next-preserved c).In-loop-next) _ (word (goal.at.loop-next-preserved c).In-loop-next) l.cells l.invariant.3 c.if-k-lt-MICRO_MARK.false)
-
-pub returns : goal.returns
-returns c = jumps-all c.requires.0 c.loop-next.next.0 c.loop-next.cells (omega (arith, c.loop-next-test.false)) c.loop-next.invariant.3
-
-pub loop-next-init : goal.loop-next-init
-loop-next-init s = (omega arith, ap length s.requires.1 ∙ order-many s.requires.0, s.requires.3, jumps-none s.args.parents.now s.args.cells.now)
+pub bounds-kinds-v : goal.bounds-kinds-v
+bounds-kinds-v c =
+    omega (arith, inside (goal.at.bounds-kinds-v c).In-loop-v, ap length c.requires.0 ∙ each-length (length c.args.tree.parents.now) 0 (kind group_limit c.args.tree.parents.now))
 
 pub bounds-cells-k : goal.bounds-cells-k
 bounds-cells-k c =
-    omega (arith, node-room c.requires.0 c.loop-next.next.0 (here (goal.at.bounds-cells-k c).In-loop-next) _ (word (goal.at.bounds-cells-k c).In-loop-next) c.if-k-lt-MICRO_MARK.true, c.loop-next.invariant.2)
+    let r = (goal.at.bounds-cells-k c).In-loop-v in
+    omega (arith, node-room (one (goal.at.In-loop-v r).Start) c.loop-v.v-index (here r) _ (word r) c.if-k-lt-MICRO_MARK.true, c.loop-v.auto.cells, c.requires.1)
 
-pub shape_of-cells : goal.shape_of-cells
-shape_of-cells c = c.loop-next.invariant.2 ∙ sym c.requires.3
+pub loop-v-preserved : goal.loop-v-preserved
+loop-v-preserved c =
+    let l = c.loop-v in
+    let r = (goal.at.loop-v-preserved c).In-loop-v in
+    elim c.if-k-lt-MICRO_MARK.branch [
+      | then-k-lt-MICRO_MARK w ↦ rw w.cells-is (jumps-macro (one (goal.at.In-loop-v r).Start) l.v-index (here r) _ (word r) l.cells l.invariant _ (entry r) (l.auto.cells ∙ c.requires.1) w.if-k-lt-MICRO_MARK.true)
+      | else-k-lt-MICRO_MARK w ↦ rw w.cells-is (jumps-micro (one (goal.at.In-loop-v r).Start) l.v-index (here r) _ (word r) l.cells l.invariant w.if-k-lt-MICRO_MARK.false)
+    ]

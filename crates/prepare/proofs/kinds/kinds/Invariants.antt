@@ -2,7 +2,7 @@
 -- entries before the last position of a size over 7. Assumes nothing.
 use mathlib.Core.Path.{◌≡◌}
 use mathlib.Core.List.{List}
-use Prim.Native.Nat.{ℕ, ◌-◌, ◌≤◌}
+use Prim.Native.Nat.{ℕ, ◌≤◌}
 use lib.ListN.{length}
 use Rattle.base.specs.Limits.{most_entries, group_limit}
 use Rattle.prepare.proofs.kinds.Turns.{KindsBefore}
@@ -16,8 +16,5 @@ pub record Turn (parents order size : List ℕ) (i groups jumps : ℕ) : Type 0 
   pub counted : groups ≤ i
   pub jumped : jumps ≤ i
 
-abbrev pub invariant-loop-next : goal.invariant-loop-next
-invariant-loop-next l = (l.next.0 ≤ length l.size) × Turn l.parents l.order l.size l.next.0 l.groups l.jumps × KindsBefore l.parents group_limit l.next.0 l.groups l.jumps l.root.0 l.end.0 l.last.0 l.cells
-
-abbrev pub decreases-loop-next : goal.decreases-loop-next
-decreases-loop-next l = length l.size - l.next.0
+abbrev pub invariant-loop-i : goal.invariant-loop-i
+invariant-loop-i l = Turn l.tree.parents.now l.tree.order.now l.sizes l.i l.groups l.jumps × KindsBefore l.tree.parents.now group_limit l.i l.groups l.jumps l.root.0 l.end.0 l.last.0 l.cells

@@ -1,32 +1,27 @@
 -- `laying::path_top` meets its contract: every position but the first has an entry above, which stands earlier. Assumes nothing.
 use mathlib.Core.Path.{sym, ap, ◌∙◌}
-use Prim.Native.Nat.{◌+◌, ◌*◌, ◌<◌}
 use native.Mathlib.Omega.{arith}
-use lib.ListN.{length, get_or}
 use Rattle.tree.specs.Forest.{path_top}
-use Rattle.prepare.specs.Arrays.{entry_at}
-use Rattle.prepare.proofs.laying.Tops.{top-first, over-less, top-no, top-yes}
+use Rattle.prepare.specs.Arrays.{OneTree, entry_at}
+use Rattle.prepare.proofs.Preorder.{one-tree, array-length}
+use Rattle.prepare.proofs.laying.Tops.{top-first, over-less, top-test}
 use Rattle.prepare.proofs.laying.path_top.Goals as goal
-use Rattle.prepare.proofs.laying.path_top.Goals.{Else-at-eq0}
+use Rattle.prepare.proofs.laying.path_top.Goals.{Start}
 
-less : (e : Else-at-eq0) → (get_or e.args.space.now (3 * length e.args.parents.now + e.args.at.0) 0 < e.args.at.0)
-less e = over-less e.requires.0 e.args.at.0 (omega (arith, e.if-at-eq0.false)) e.requires.1
+one : (c : Start) → OneTree c.args.tree.parents.now
+one c = one-tree c.args.tree.few c.args.tree.judged
 
 pub returns-then-at-eq0 : goal.returns-then-at-eq0
 returns-then-at-eq0 c =
-    sym (top-first c.requires.0) ∙ ap (λ i. path_top c.args.parents.now (entry_at c.args.parents.now i)) (sym c.if-at-eq0.true)
+    sym (top-first (one (goal.at.returns-then-at-eq0 c).Start) c.args.tree.over) ∙ ap (λ i. path_top c.args.tree.parents.now (entry_at c.args.tree.parents.now i)) (sym c.if-at-eq0.true)
 
-pub overflow_add-n : goal.overflow_add-n
-overflow_add-n c = omega (arith, less (goal.at.overflow_add-n c).Else-at-eq0, c.requires.0.parented.walked.one.few)
+pub bounds-tree-at : goal.bounds-tree-at
+bounds-tree-at c = omega (arith, c.requires.1, array-length (one (goal.at.bounds-tree-at c).Start) _ _ c.args.tree.over)
 
-pub offset_bounds-space-n-2 : goal.offset_bounds-space-n-2
-offset_bounds-space-n-2 c = omega (arith, less (goal.at.offset_bounds-space-n-2 c).Else-at-eq0, c.requires.0.parented.walked.one.few)
-
-pub bounds-space-n-2 : goal.bounds-space-n-2
-bounds-space-n-2 c = omega (arith, less (goal.at.bounds-space-n-2 c).Else-at-eq0, c.requires.0.parented.walked.room)
-
-pub returns-then-space-n : goal.returns-then-space-n
-returns-then-space-n c = top-no c.requires.0 _ (omega arith) c.requires.1 c.if-space-n.true
+pub bounds-longs-over : goal.bounds-longs-over
+bounds-longs-over c =
+    let t = one (goal.at.bounds-longs-over c).Start in
+    omega (arith, over-less t c.args.tree.over c.args.at.0 (omega arith) c.requires.1, c.requires.1, array-length t _ _ c.requires.0)
 
 pub returns : goal.returns
-returns c = top-yes c.requires.0 _ (omega arith) c.requires.1 c.if-space-n.false
+returns c = sym (top-test (one (goal.at.returns c).Start) c.args.tree.over c.args.at.0 (omega arith) c.requires.1 c.requires.0)

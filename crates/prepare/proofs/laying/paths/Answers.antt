@@ -2,113 +2,131 @@
 -- Assumes nothing.
 use mathlib.Core.Path.{◌≡◌, sym, ap, ◌∙◌}
 use mathlib.Core.Bool.{true, false}
-use Prim.Native.Nat.{ℕ, ◌+◌, ◌*◌, ◌≤◌, ◌<◌}
+use Prim.Native.Nat.{◌+◌, ◌≤◌, ◌<◌, min}
 use native.Mathlib.Omega.{arith}
 use lib.ListN.{length, get_or}
+use Rattle.base.proofs.Puts.{wiped}
+use Rattle.tree.specs.Parents.{depth}
 use Rattle.tree.specs.Forest.{height, path_top}
 use Rattle.climbs.proofs.Ladders.{rise}
-use Rattle.prepare.specs.Arrays.{entry_at}
-use Rattle.prepare.proofs.laying.Turns.{before-none, words-room, paths-end, places-end, rungs-end, paths-small, own_room, own-place, height-kept, words_small, before-top, before-next}
+use Rattle.prepare.specs.Arrays.{OneTree, entry_at}
+use Rattle.prepare.proofs.Preorder.{one-tree, array-length, array-words}
+use Rattle.prepare.proofs.laying.Rungs.{risen-by}
+use Rattle.prepare.proofs.laying.Turns.{before-none, words-room, paths-end, places-end, rungs-end, paths-small, own_room, own-place, words_small, before-top, before-next}
 use Rattle.prepare.proofs.laying.paths.Goals as goal
-use Rattle.prepare.proofs.laying.paths.Goals.{After-loop-next, After-path_top, After-slice_known-then-path_top-4-1, Else-path_top, Then-path_top}
+use Rattle.prepare.proofs.laying.paths.Goals.{Start, In-loop-i, After-loop-i, After-top_place-own, Then-path_top, Else-path_top, then-path_top, else-path_top}
 
-abbrev Turn : Type 0
-Turn = After-path_top
+one : (c : Start) → OneTree c.args.tree.parents.now
+one c = one-tree c.args.tree.few c.args.tree.judged
 
--- the entry of a turn
-abbrev entry : Turn → ℕ
-entry p = entry_at p.args.parents.now p.loop-next.next.0
+many : (c : Start) → length c.args.heights.now ≡ length c.args.tree.parents.now
+many c = array-length (one c) _ _ c.requires.paths.0
 
-low : (p : Turn) → p.loop-next.next.0 < length p.args.parents.now
-low p = omega (arith, p.loop-next-test.true)
+-- a turn: its position, and the height there
+here : (c : In-loop-i) → c.loop-i.i < length c.args.tree.parents.now
+here c = omega (arith, many (goal.at.In-loop-i c).Start)
 
--- where a path starts
-top : (p : Then-path_top) → path_top p.args.parents.now (entry (goal.at.Then-path_top p).After-path_top) ≡ true
+long : (c : In-loop-i) → length c.loop-i.places ≡ length c.args.tree.parents.now
+long c = c.loop-i.auto.places ∙ c.requires.room.0
+
+high : (c : In-loop-i) → get_or c.args.heights.now c.loop-i.i 0 ≡ height c.args.tree.parents.now (entry_at c.args.tree.parents.now c.loop-i.i)
+high c = array-words (one (goal.at.In-loop-i c).Start) (height c.args.tree.parents.now) _ c.requires.paths.0 c.loop-i.i (here c)
+
+pub loop-i-init : goal.loop-i-init
+loop-i-init c = before-none _ _ (one (goal.at.loop-i-init c).Start) c.requires.room.1
+
+pub overflow_cast-at : goal.overflow_cast-at
+overflow_cast-at c = omega (arith, here (goal.at.overflow_cast-at c).In-loop-i, c.args.tree.few)
+
+pub path_top-requires : goal.path_top-requires
+path_top-requires c = (c.requires.paths.1, here (goal.at.path_top-requires c).In-loop-i)
+
+-- where a long path starts, and where one goes on
+top : (p : Then-path_top) → path_top p.args.tree.parents.now (entry_at p.args.tree.parents.now p.loop-i.i) ≡ true
 top p = sym p.path_top.ensures ∙ p.if-path_top.true
 
-own : (p : Then-path_top) → p.loop-next.words + rise p.args.parents.now (entry (goal.at.Then-path_top p).After-path_top) < length p.loop-next.cells
-own p = omega (arith, own-place p.loop-next.invariant.1 (low (goal.at.Then-path_top p).After-path_top) (top p), own_room p.loop-next.invariant.1 (low (goal.at.Then-path_top p).After-path_top))
+goes : (p : Else-path_top) → path_top p.args.tree.parents.now (entry_at p.args.tree.parents.now p.loop-i.i) ≡ false
+goes p = sym p.path_top.ensures ∙ p.if-path_top.false
+
+-- how far the ladder reaches up
+reach : (c : In-loop-i) → min (get_or c.args.heights.now c.loop-i.i 0) (depth c.args.tree.parents.now (entry_at c.args.tree.parents.now c.loop-i.i)) ≡ rise c.args.tree.parents.now (entry_at c.args.tree.parents.now c.loop-i.i)
+reach c = ap (λ k. min k (depth c.args.tree.parents.now (entry_at c.args.tree.parents.now c.loop-i.i))) (high c)
 
 pub top_place-own-requires : goal.top_place-own-requires
 top_place-own-requires c =
-    let b = c.loop-next.invariant.1 in
-    (b.pathed, own (goal.at.top_place-own-requires c).Then-path_top, low (goal.at.top_place-own-requires c).After-path_top, omega (arith, b.rungs.size, b.pathed.parented.walked.one.few))
+    let r = (goal.at.top_place-own-requires c).In-loop-i in
+    let t = one (goal.at.top_place-own-requires c).Start in
+    let v = c.loop-i.invariant in
+    (high r, omega (arith, reach r, own-place t v (long r) (here r) (top (goal.at.top_place-own-requires c).Then-path_top), own_room t v (long r) (here r)), here r, omega (arith, v.rungs.size, c.args.tree.few))
+
+-- the place of a path's top
+own : (p : After-top_place-own) → p.top_place-own.result ≡ p.loop-i.words + rise p.args.tree.parents.now (entry_at p.args.tree.parents.now p.loop-i.i)
+own p = p.top_place-own.ensures.place ∙ ap (λ k. p.loop-i.words + k) (reach (goal.at.After-top_place-own p).In-loop-i)
 
 pub settle-requires : goal.settle-requires
 settle-requires c =
-    let w = c.loop-next.invariant.1.pathed.parented.walked in
-    (w.room, w.one.few, low (goal.at.settle-requires c).After-path_top, omega (arith, own (goal.at.settle-requires c).Then-path_top, c.top_place-own.ensures.place, c.top_place-own.ensures.written.same))
+    let r = (goal.at.settle-requires c).In-loop-i in
+    let t = one (goal.at.settle-requires c).Start in
+    let v = c.loop-i.invariant in
+    (here r, long r, omega (arith, own (goal.at.settle-requires c).After-top_place-own, own-place t v (long r) (here r) (top (goal.at.settle-requires c).Then-path_top), own_room t v (long r) (here r), c.top_place-own.auto.cells))
 
-high : (c : After-slice_known-then-path_top-4-1) → (get_or c.settle.new.space (4 * length c.args.parents.now + c.loop-next.next.0) 0 ≡ height c.args.parents.now (entry (goal.at.After-slice_known-then-path_top-4-1 c).After-path_top))
-high c =
-    ap (λ x. get_or x (4 * length c.args.parents.now + c.loop-next.next.0) 0) c.settle.ensures.0 ∙ height-kept c.loop-next.invariant.1 (low (goal.at.After-slice_known-then-path_top-4-1 c).After-path_top) _
-
-pub overflow_add-words-then-path_top : goal.overflow_add-words-then-path_top
-overflow_add-words-then-path_top c =
-    omega (arith, c.top_place-own.ensures.place, high (goal.at.overflow_add-words-then-path_top c).After-slice_known-then-path_top-4-1, words_small c.loop-next.invariant.1 (low (goal.at.overflow_add-words-then-path_top c).After-path_top) (top (goal.at.overflow_add-words-then-path_top c).Then-path_top))
-
-pub loop-next-preserved-then-path_top : goal.loop-next-preserved-then-path_top
-loop-next-preserved-then-path_top c =
-    let place = c.top_place-own.ensures.place in
-    let risen = c.top_place-own.ensures.written in
-    let (a, b) = c.settle.ensures in
-    (omega (arith, low (goal.at.loop-next-preserved-then-path_top c).After-path_top), before-top c.loop-next.invariant.1 (low (goal.at.loop-next-preserved-then-path_top c).After-path_top) (top (goal.at.loop-next-preserved-then-path_top c).Then-path_top) _ _ _ _ _ place (high (goal.at.loop-next-preserved-then-path_top c).After-slice_known-then-path_top-4-1) risen a b)
-
--- where one goes on
-goes : (p : Else-path_top) → path_top p.args.parents.now (entry (goal.at.Else-path_top p).After-path_top) ≡ false
-goes p = sym p.path_top.ensures ∙ p.if-path_top.false
-
-pub settle-requires-else-path_top : goal.settle-requires-else-path_top
-settle-requires-else-path_top c =
-    let w = c.loop-next.invariant.1.pathed.parented.walked in
-    (w.room, w.one.few, low (goal.at.settle-requires-else-path_top c).After-path_top, omega (arith, c.next_place-place.ensures, own_room c.loop-next.invariant.1 (low (goal.at.settle-requires-else-path_top c).After-path_top)))
-
-pub loop-next-preserved : goal.loop-next-preserved
-loop-next-preserved c =
-    (omega (arith, low (goal.at.loop-next-preserved c).After-path_top), before-next c.loop-next.invariant.1 (low (goal.at.loop-next-preserved c).After-path_top) _ _ _ (goes (goal.at.loop-next-preserved c).Else-path_top) c.next_place-place.ensures c.settle-else-path_top.ensures.0 c.settle-else-path_top.ensures.1)
-
--- the words of all ladders fit the section
-fits : (c : After-loop-next) → c.loop-next.words ≤ length c.loop-next.cells
-fits c = words-room c.loop-next.invariant.1 c.loop-next.invariant.0
-
-pub returns : goal.returns
-returns c =
-    let l = c.loop-next in
-    let z = c.set_all in
-    let all : l.next.0 ≡ length c.args.parents.now = omega (arith, l.invariant.0, c.loop-next-test.false) in
-    record { paths = paths-end l.invariant.1 all; kept = places-end l.invariant.1 all; laid = rungs-end l.invariant.1 all z.new.words z.ensures }
-
-pub loop-next-init : goal.loop-next-init
-loop-next-init c = (omega arith, before-none _ c.requires.0 c.requires.1)
-
-pub path_top-requires : goal.path_top-requires
-path_top-requires c = (c.loop-next.invariant.1.pathed, omega arith)
-
-pub bounds-space-n : goal.bounds-space-n
-bounds-space-n c = omega (arith, c.settle.auto.space, c.loop-next.invariant.1.pathed.parented.walked.room)
+pub overflow_add-words : goal.overflow_add-words
+overflow_add-words c =
+    let r = (goal.at.overflow_add-words c).In-loop-i in
+    let t = one (goal.at.overflow_add-words c).Start in
+    omega (arith, own (goal.at.overflow_add-words c).After-top_place-own, high r, words_small t c.loop-i.invariant (long r) (here r) (top (goal.at.overflow_add-words c).Then-path_top))
 
 pub overflow_add-paths : goal.overflow_add-paths
 overflow_add-paths c =
-    omega (arith, paths-small c.loop-next.invariant.1 (low (goal.at.overflow_add-paths c).After-path_top), c.loop-next.invariant.1.pathed.parented.walked.one.few)
+    let r = (goal.at.overflow_add-paths c).In-loop-i in
+    omega (arith, here r, paths-small (one (goal.at.overflow_add-paths c).Start) c.loop-i.invariant (long r) (here r), c.args.tree.few)
 
 pub next_place-place-requires : goal.next_place-place-requires
 next_place-place-requires c =
-    (c.loop-next.invariant.1.pathed, goes (goal.at.next_place-place-requires c).Else-path_top, c.loop-next.invariant.1.placed, low (goal.at.next_place-place-requires c).After-path_top)
+    let r = (goal.at.next_place-place-requires c).In-loop-i in
+    (goes (goal.at.next_place-place-requires c).Else-path_top, c.loop-i.invariant.placed, here r, long r)
 
-pub overflow_cast-words-2 : goal.overflow_cast-words-2
-overflow_cast-words-2 c = omega (arith, fits (goal.at.overflow_cast-words-2 c).After-loop-next)
+pub settle-requires-else-path_top : goal.settle-requires-else-path_top
+settle-requires-else-path_top c =
+    let r = (goal.at.settle-requires-else-path_top c).In-loop-i in
+    (here r, long r, omega (arith, c.next_place-place.ensures, own_room (one (goal.at.settle-requires-else-path_top c).Start) c.loop-i.invariant (long r) (here r)))
 
-pub offset_bounds-cells-words : goal.offset_bounds-cells-words
-offset_bounds-cells-words c = omega (arith, fits (goal.at.offset_bounds-cells-words c).After-loop-next)
+pub loop-i-preserved : goal.loop-i-preserved
+loop-i-preserved c =
+    let r = (goal.at.loop-i-preserved c).In-loop-i in
+    let t = one (goal.at.loop-i-preserved c).Start in
+    let v = c.loop-i.invariant in
+    elim c.if-path_top.branch [
+      | then-path_top w ↦
+          let e = w.top_place-own.ensures in
+          rw (w.paths-is, w.words-is, w.places-is, w.cells-is)
+          (before-top t v (long r) (here r) (sym c.path_top.ensures ∙ w.if-path_top.true) _ _ _ _ _ (e.place ∙ ap (λ k. c.loop-i.words + k) (reach r)) (high r) (risen-by _ _ (reach r) e.written) w.settle.ensures.0 w.settle.ensures.1)
+      | else-path_top w ↦
+          rw (w.paths-is, w.words-is, w.places-is, w.cells-is)
+          (before-next t v (long r) (here r) _ _ _ (sym c.path_top.ensures ∙ w.if-path_top.false) w.next_place-place.ensures w.settle-else-path_top.ensures.0 w.settle-else-path_top.ensures.1)
+    ]
 
-pub slice_bounds-set_all-count : goal.slice_bounds-set_all-count
-slice_bounds-set_all-count c = omega (arith, fits (goal.at.slice_bounds-set_all-count c).After-loop-next)
+-- the words of all ladders fit the section
+fits : (c : After-loop-i) → c.loop-i.words ≤ length c.loop-i.cells
+fits c =
+    let s = (goal.at.After-loop-i c).Start in
+    words-room (one s) c.loop-i.invariant (c.loop-i.auto.places ∙ c.requires.room.0) (omega (arith, many s))
 
-pub slice_bounds-set_all-start : goal.slice_bounds-set_all-start
-slice_bounds-set_all-start c = omega (arith, fits (goal.at.slice_bounds-set_all-start c).After-loop-next)
+pub slice_bounds-fill-count : goal.slice_bounds-fill-count
+slice_bounds-fill-count c = omega (arith, fits (goal.at.slice_bounds-fill-count c).After-loop-i)
 
-pub shape_of-space : goal.shape_of-space
-shape_of-space c = c.loop-next.invariant.1.pathed.parented.walked.room ∙ sym c.requires.0.parented.walked.room
+pub slice_bounds-fill-start : goal.slice_bounds-fill-start
+slice_bounds-fill-start c = omega (arith, fits (goal.at.slice_bounds-fill-start c).After-loop-i)
 
-pub shape_of-cells : goal.shape_of-cells
-shape_of-cells c = c.cells-2-1.given.1 ∙ c.loop-next.invariant.1.rungs.size ∙ sym c.requires.1
+pub returns : goal.returns
+returns c =
+    let s = (goal.at.returns c).Start in
+    let t = one s in
+    let l = c.loop-i in
+    let long = l.auto.places ∙ c.requires.room.0 in
+    let all : l.i ≡ length c.args.tree.parents.now = omega (arith, many s) in
+    record {
+      paths = paths-end t l.invariant long all;
+      places = places-end t l.invariant long all;
+      laid = rungs-end t l.invariant long all _ (wiped l.cells _ l.words (fits (goal.at.returns c).After-loop-i) (c.fill.ensures.after (λ y e. e)));
+    }

@@ -1,49 +1,47 @@
--- `laying::rise` meets its contract: after k climbs the k nearest ancestors are written. Assumes nothing.
+-- `laying::rise` meets its contract: the nearest ancestors are written from the place down to `cell`. Assumes nothing.
 use mathlib.Core.Path.{◌≡◌, sym, ap, ◌∙◌}
 use mathlib.Core.Option.{some}
-use Prim.Native.Nat.{◌+◌}
+use Prim.Native.Nat.{◌+◌, ◌-◌}
 use native.Mathlib.Omega.{arith}
-use lib.ListN.{length, get_or, length-set}
-use Rattle.prepare.specs.Arrays.{entry_at}
-use Rattle.prepare.proofs.Preorder.{order-many, located-at, array-length, array-words}
-use Rattle.prepare.proofs.laying.Rungs.{Climbed, climbed-none, climbed-more, risen-none, risen-more, risen-by}
+use lib.ListN.{length, get_or}
+use Rattle.prepare.specs.Arrays.{OneTree, entry_at}
+use Rattle.prepare.proofs.Preorder.{one-tree, order-many, located-at, array-length, array-words}
+use Rattle.prepare.proofs.laying.Rungs.{Climbed, climbed-none, climbed-more, risen-none, risen-more}
 use Rattle.prepare.proofs.laying.rise.Goals as goal
-use Rattle.prepare.proofs.laying.rise.Goals.{After-shared_slice_known-in-loop-k-1, Start}
+use Rattle.prepare.proofs.laying.rise.Goals.{Start, In-loop-cell}
 
-all : (s : Start) → length s.args.order.now ≡ length s.args.parents.now
-all s = ap length s.requires.1 ∙ order-many s.requires.0
+one : (c : Start) → OneTree c.args.tree.parents.now
+one c = one-tree c.args.tree.few c.args.tree.judged
 
-pub loop-k-init : goal.loop-k-init
-loop-k-init s =
-    let (t, e, a, b, h, m, r) = s.requires in
-    (omega arith, array-length t _ _ a ∙ sym (all (goal.at.loop-k-init s).Start), omega arith, h, climbed-none t s.args.top.0 (omega (arith, all (goal.at.loop-k-init s).Start)), risen-none _ _ s.args.place s.args.cells.now)
+pub loop-cell-init : goal.loop-cell-init
+loop-cell-init s =
+    let t = one (goal.at.loop-cell-init s).Start in
+    let z : s.args.place - s.args.place ≡ 0 = omega arith in
+    record { low = omega arith; climbed = rw z (climbed-none t s.args.top.0 s.requires.1); risen = rw z (risen-none _ _ s.args.place s.args.cells.now) }
 
 -- one climb further
-next : (c : After-shared_slice_known-in-loop-k-1) → (let a = c.args in
-    Climbed a.parents.now (entry_at a.parents.now a.top.0) (c.loop-k.k + 1) (get_or a.above.now c.loop-k.at.0 0))
+next : (c : In-loop-cell) → Climbed c.args.tree.parents.now (entry_at c.args.tree.parents.now c.args.top.0) (c.args.place - c.loop-cell.cell + 1) (get_or c.args.tree.aboves.now c.loop-cell.at.0 0)
 next c =
-    let (t, e, a, b, h, m, r) = c.requires in
-    let up = c.loop-k.invariant.4 in
-    climbed-more t (array-words t _ _ a c.loop-k.at.0 up.inside) (located-at t c.args.top.0 (omega (arith, all (goal.at.After-shared_slice_known-in-loop-k-1 c).Start))).inside (omega arith) up
+    let t = one (goal.at.In-loop-cell c).Start in
+    let up = c.loop-cell.invariant.climbed in
+    climbed-more t (array-words t _ _ c.args.tree.over c.loop-cell.at.0 up.inside) (located-at t c.args.top.0 c.requires.1).inside (omega (arith, c.loop-cell.invariant.low)) up
 
-pub bounds-order-at : goal.bounds-order-at
-bounds-order-at c =
-    omega (arith, (next (goal.at.bounds-order-at c).After-shared_slice_known-in-loop-k-1).inside, all (goal.at.bounds-order-at c).Start)
+pub bounds-tree-at : goal.bounds-tree-at
+bounds-tree-at c = omega (arith, c.loop-cell.invariant.climbed.inside, array-length (one (goal.at.bounds-tree-at c).Start) _ _ c.args.tree.over)
 
-pub loop-k-preserved : goal.loop-k-preserved
-loop-k-preserved c =
-    let l = c.loop-k in
-    let (t, e, a, b, h, m, r) = c.requires in (
-      omega arith,
-      l.invariant.1,
-      length-set l.cells _ _ ∙ l.invariant.2,
-      bounds-order-at (goal.at.loop-k-preserved c).After-shared_slice_known-in-loop-k-1,
-      next (goal.at.loop-k-preserved c).After-shared_slice_known-in-loop-k-1,
-      risen-more _ _ c.args.place l.k c.args.cells.now l.cells _ (omega arith) r ((next (goal.at.loop-k-preserved c).After-shared_slice_known-in-loop-k-1).reached ∙ ap some (sym (ap (λ x. get_or x (get_or c.args.above.now l.at.0 0) 0) e))) l.invariant.5,
-    )
+pub bounds-tree-at-in-loop-cell : goal.bounds-tree-at-in-loop-cell
+bounds-tree-at-in-loop-cell c =
+    omega (arith, (next (goal.at.bounds-tree-at-in-loop-cell c).In-loop-cell).inside, ap length c.args.tree.orders ∙ order-many (one (goal.at.bounds-tree-at-in-loop-cell c).Start))
 
-pub returns : goal.returns
-returns c = risen-by _ _ (omega arith) c.loop-k.invariant.5
-
-pub shape_of-cells : goal.shape_of-cells
-shape_of-cells c = c.loop-k.invariant.2
+pub loop-cell-preserved : goal.loop-cell-preserved
+loop-cell-preserved c =
+    let l = c.loop-cell in
+    let n = next (goal.at.loop-cell-preserved c).In-loop-cell in
+    let z : c.args.place - (l.cell - 1) ≡ c.args.place - l.cell + 1 = omega arith in
+    let y : c.args.place - (c.args.place - l.cell + 1) ≡ l.cell - 1 = omega arith in
+    let e = ap (λ x. get_or x (get_or c.args.tree.aboves.now l.at.0 0) 0) c.args.tree.orders in
+    record {
+      low = omega arith;
+      climbed = rw z n;
+      risen = rw (z, ← y) (risen-more _ _ c.args.place (c.args.place - l.cell) c.args.cells.now l.cells _ (omega arith) c.requires.3 (n.reached ∙ ap some (sym e)) l.invariant.risen);
+    }

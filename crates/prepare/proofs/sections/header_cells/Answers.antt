@@ -1,14 +1,10 @@
 -- `sections::header_cells` meets its contract. Assumes nothing.
 use mathlib.Core.Path.{refl, ap, ◌∙◌}
 use mathlib.Core.List.{[], ◌∷◌}
-use native.Mathlib.Omega.{arith}
 use Rattle.base.proofs.Puts.{lent_back}
 use Rattle.prepare.proofs.sections.header_cells.Goals as goal
 
 pub returns : goal.returns
 returns c =
     let rest = c.args.counts.jumps ∷ c.args.counts.groups ∷ c.args.paths ∷ [] in
-    lent_back 0 4 c.args.table.now _ _ (c.copy.ensures ∙ ap (λ n. n ∷ rest) c.header_of.ensures) refl
-
-pub overflow_cast-cells : goal.overflow_cast-cells
-overflow_cast-cells c = omega (arith, c.header_of.ensures)
+    lent_back 0 4 c.args.table.now _ _ (c.copy_from_slice.ensures.after ∙ ap (λ n. n ∷ rest) c.header_of.ensures) refl

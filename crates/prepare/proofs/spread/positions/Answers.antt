@@ -1,34 +1,39 @@
 -- `spread::positions` meets its contract: the loop has written the positions before `at`. Assumes nothing.
-use mathlib.Core.Path.{◌≡◌, refl, ap, ◌∙◌, sym}
+use mathlib.Core.Path.{◌≡◌, refl, ap, ◌∙◌}
 use Prim.Native.Nat.{◌<◌}
 use native.Mathlib.Omega.{arith}
 use lib.ListN.{length, get_or}
 use Rattle.tree.specs.Forest.{position}
-use Rattle.prepare.specs.Arrays.{entry_at}
-use Rattle.prepare.proofs.Preorder.{order-many}
-use Rattle.prepare.proofs.spread.Writes.{written_none, written-room, written-more, written_all}
+use Rattle.prepare.specs.Arrays.{OneTree, entry_at}
+use Rattle.prepare.proofs.Preorder.{one-tree, order-many}
+use Rattle.prepare.proofs.spread.Writes.{written-room, written-more, written_all}
 use Rattle.prepare.proofs.spread.positions.Goals as goal
-use Rattle.prepare.proofs.spread.positions.Goals.{After-struct_known-in-loop-at-2-1}
+use Rattle.prepare.proofs.spread.positions.Goals.{Start, In-loop-at}
 
-here : (c : After-struct_known-in-loop-at-2-1) → c.loop-at.at.0 < length c.args.parents.now
-here c = omega (arith, c.loop-at-test.true)
+one : (c : Start) → OneTree c.args.tree.parents.now
+one c = one-tree c.args.tree.few c.args.tree.judged
 
-entry : (c : After-struct_known-in-loop-at-2-1) → get_or c.args.order.now c.loop-at.at.0 0 ≡ entry_at c.args.parents.now c.loop-at.at.0
-entry c = ap (λ l. get_or l c.loop-at.at.0 0) c.requires.1
+many : (c : Start) → length c.args.tree.order.now ≡ length c.args.tree.parents.now
+many c = ap length c.args.tree.orders ∙ order-many (one c)
 
-pub loop-at-preserved : goal.loop-at-preserved
-loop-at-preserved c =
-    (omega (arith, here (goal.at.loop-at-preserved c).After-struct_known-in-loop-at-2-1), c.loop-at.invariant.1, written-more c.requires.0 c.loop-at.invariant.2 (here (goal.at.loop-at-preserved c).After-struct_known-in-loop-at-2-1) _ (entry (goal.at.loop-at-preserved c).After-struct_known-in-loop-at-2-1) _ refl)
+here : (c : In-loop-at) → c.loop-at.at < length c.args.tree.parents.now
+here c = omega (arith, many (goal.at.In-loop-at c).Start)
 
-pub returns : goal.returns
-returns c = written_all c.requires.0 c.loop-at.invariant.2 (omega (arith, c.loop-at-test.false)) (position _) (λ v h. refl)
+entry : (c : In-loop-at) → get_or c.args.tree.order.now c.loop-at.at 0 ≡ entry_at c.args.tree.parents.now c.loop-at.at
+entry c = ap (λ l. get_or l c.loop-at.at 0) c.args.tree.orders
 
-pub loop-at-init : goal.loop-at-init
-loop-at-init s = (omega arith, ap length s.requires.1 ∙ order-many s.requires.0, written_none _ _ s.args.cells.now s.requires.2)
+pub overflow_cast-cells : goal.overflow_cast-cells
+overflow_cast-cells c = omega (arith, here (goal.at.overflow_cast-cells c).In-loop-at, c.args.tree.few)
 
 pub bounds-cells-v : goal.bounds-cells-v
 bounds-cells-v c =
-    written-room c.requires.0 c.loop-at.invariant.2 (here (goal.at.bounds-cells-v c).After-struct_known-in-loop-at-2-1) _ (entry (goal.at.bounds-cells-v c).After-struct_known-in-loop-at-2-1)
+    let r = (goal.at.bounds-cells-v c).In-loop-at in written-room (one (goal.at.bounds-cells-v c).Start) c.loop-at.invariant (here r) _ (entry r)
 
-pub shape_of-cells : goal.shape_of-cells
-shape_of-cells c = c.loop-at.invariant.2.room ∙ sym c.requires.2
+pub loop-at-preserved : goal.loop-at-preserved
+loop-at-preserved c =
+    let r = (goal.at.loop-at-preserved c).In-loop-at in
+    written-more (one (goal.at.loop-at-preserved c).Start) c.loop-at.invariant (here r) _ (entry r) _ refl
+
+pub returns : goal.returns
+returns c =
+    written_all (one (goal.at.returns c).Start) c.loop-at.invariant (omega (arith, many (goal.at.returns c).Start)) (position _) (λ v h. refl)

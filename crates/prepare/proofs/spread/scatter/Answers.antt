@@ -1,36 +1,47 @@
--- `spread::scatter` meets its contract: the loop has written the words of the positions before `at`. Assumes nothing.
-use mathlib.Core.Path.{◌≡◌, refl, ap, ◌∙◌, sym}
+-- `spread::scatter` meets its contract: the loop has written the words of the positions that it has gone over. Assumes nothing.
+use mathlib.Core.Path.{◌≡◌, ap, ◌∙◌}
 use Prim.Native.Nat.{◌<◌}
 use native.Mathlib.Omega.{arith}
 use lib.ListN.{length, get_or}
+use Rattle.std.proofs.lemmas.List.{length_push}
+use Rattle.std.proofs.lemmas.Slice.Zip.{zip_turn, zip_end}
 use Rattle.tree.specs.Forest.{position}
-use Rattle.prepare.specs.Arrays.{entry_at}
-use Rattle.prepare.proofs.Preorder.{order-many, located-of, array-words}
-use Rattle.prepare.proofs.spread.Writes.{written_none, written-room, written-more, written_all}
+use Rattle.prepare.specs.Arrays.{OneTree, entry_at}
+use Rattle.prepare.proofs.Preorder.{one-tree, order-many, located-of, array-words}
+use Rattle.prepare.proofs.spread.Writes.{written-room, written-more, written_all}
 use Rattle.prepare.proofs.spread.scatter.Goals as goal
-use Rattle.prepare.proofs.spread.scatter.Goals.{After-struct_known-in-loop-at-3-1}
+use Rattle.prepare.proofs.spread.scatter.Goals.{Start, In-Some}
 
-here : (c : After-struct_known-in-loop-at-3-1) → c.loop-at.at.0 < length c.args.parents.now
-here c = omega (arith, c.loop-at-test.true)
+one : (c : Start) → OneTree c.args.tree.parents.now
+one c = one-tree c.args.tree.few c.args.tree.judged
 
-entry : (c : After-struct_known-in-loop-at-3-1) → get_or c.args.order.now c.loop-at.at.0 0 ≡ entry_at c.args.parents.now c.loop-at.at.0
-entry c = ap (λ l. get_or l c.loop-at.at.0 0) c.requires.1
+-- where the turn is
+here : (c : In-Some) → length c.loop-v.yielded < length c.args.tree.parents.now
+here c =
+    let t = zip_turn c.args.tree.order.now c.args.values.now c.loop-v.yielded c.into_iter-v-iterator.result c.loop-v.v-iterator c.next.new.self c.next.result (cc) (cc) c.loop-v.yielded_by _ c.in-Some.is c.next.ensures.steps in
+    omega (arith, t.1, c.requires.0)
 
-pub loop-at-preserved : goal.loop-at-preserved
-loop-at-preserved c =
-    (omega (arith, here (goal.at.loop-at-preserved c).After-struct_known-in-loop-at-3-1), c.loop-at.invariant.1, written-more c.requires.0 c.loop-at.invariant.2 (here (goal.at.loop-at-preserved c).After-struct_known-in-loop-at-3-1) _ (entry (goal.at.loop-at-preserved c).After-struct_known-in-loop-at-3-1) _ refl)
+entry : (c : In-Some) → c.in-Some.v.now ≡ entry_at c.args.tree.parents.now (length c.loop-v.yielded)
+entry c =
+    let t = zip_turn c.args.tree.order.now c.args.values.now c.loop-v.yielded c.into_iter-v-iterator.result c.loop-v.v-iterator c.next.new.self c.next.result (cc) (cc) c.loop-v.yielded_by _ c.in-Some.is c.next.ensures.steps in
+    t.2 0 ∙ ap (λ l. get_or l (length c.loop-v.yielded) 0) c.args.tree.orders
 
-pub returns : goal.returns
-returns c f e =
-    let t = c.requires.0 in
-    written_all t c.loop-at.invariant.2 (omega (arith, c.loop-at-test.false)) f (λ v h. let there = located-of t v h in array-words t f _ e (position _ v) there.low ∙ ap f there.entry)
-
-pub loop-at-init : goal.loop-at-init
-loop-at-init s = (omega arith, ap length s.requires.1 ∙ order-many s.requires.0, written_none _ _ s.args.cells.now s.requires.3)
+word : (c : In-Some) → c.in-Some.x.now ≡ get_or c.args.values.now (length c.loop-v.yielded) 0
+word c =
+    let t = zip_turn c.args.tree.order.now c.args.values.now c.loop-v.yielded c.into_iter-v-iterator.result c.loop-v.v-iterator c.next.new.self c.next.result (cc) (cc) c.loop-v.yielded_by _ c.in-Some.is c.next.ensures.steps in
+    t.3 0
 
 pub bounds-cells-v : goal.bounds-cells-v
 bounds-cells-v c =
-    written-room c.requires.0 c.loop-at.invariant.2 (here (goal.at.bounds-cells-v c).After-struct_known-in-loop-at-3-1) _ (entry (goal.at.bounds-cells-v c).After-struct_known-in-loop-at-3-1)
+    let r = (goal.at.bounds-cells-v c).In-Some in written-room (one (goal.at.bounds-cells-v c).Start) c.loop-v.invariant (here r) _ (entry r)
 
-pub shape_of-cells : goal.shape_of-cells
-shape_of-cells c = c.loop-at.invariant.2.room ∙ sym c.requires.3
+pub loop-v-preserved : goal.loop-v-preserved
+loop-v-preserved c =
+    let r = (goal.at.loop-v-preserved c).In-Some in
+    rw length_push (written-more (one (goal.at.loop-v-preserved c).Start) c.loop-v.invariant (here r) _ (entry r) _ (word r))
+
+pub returns : goal.returns
+returns c f e =
+    let t = one (goal.at.returns c).Start in
+    let all = zip_end c.args.tree.order.now c.args.values.now c.loop-v.yielded c.into_iter-v-iterator.result c.loop-v.v-iterator c.next.new.self c.next.result (cc) (cc) c.loop-v.yielded_by c.in-None.is c.next.ensures.steps in
+    written_all t c.loop-v.invariant (omega (arith, all, ap length c.args.tree.orders ∙ order-many t, c.requires.0)) f (λ v h. let there = located-of t v h in array-words t f _ e (position _ v) there.low ∙ ap f there.entry)

@@ -1,12 +1,7 @@
--- `spread::scatter` meets its contract: the loop has written the words of the positions before `at`. Assumes nothing.
-use mathlib.Core.Path.{◌≡◌}
-use Prim.Native.Nat.{◌-◌, ◌≤◌}
+-- `spread::scatter` meets its contract: the loop has written the words of the positions that it has gone over. Assumes nothing.
 use lib.ListN.{length, get_or}
 use Rattle.prepare.proofs.spread.Writes.{Written}
 use Rattle.prepare.proofs.spread.scatter.Given as goal
 
-abbrev pub invariant-loop-at : goal.invariant-loop-at
-invariant-loop-at l = (l.at.0 ≤ length l.parents) × (length l.order ≡ length l.parents) × Written l.parents (λ k. get_or l.values k 0) l.at.0 l.cells
-
-abbrev pub decreases-loop-at : goal.decreases-loop-at
-decreases-loop-at l = length l.parents - l.at.0
+abbrev pub invariant-loop-v : goal.invariant-loop-v
+invariant-loop-v l = Written l.tree.parents.now (λ k. get_or l.values k 0) (length l.yielded) l.cells
