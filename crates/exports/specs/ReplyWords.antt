@@ -1,7 +1,7 @@
 -- The answers of preparing and of a check as the words that other languages read. Assumes nothing.
 use Rattle.std.specs.Prelude.{List, [], ◌∷◌, ℕ}
 use Rattle.base.specs.Numbers.{Outcome}
-use Rattle.sheets.specs.declared.Verdict.{Verdict}
+use Rattle.sheets.specs.Verdicts.{Verdict}
 
 -- preparing's number, and what it names
 unfoldable pub reply_words : Outcome → List ℕ

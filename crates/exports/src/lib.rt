@@ -10,7 +10,7 @@ ghost use Rattle.answers.specs.Steps.{level, climbing, rating, ancestry, branch}
 ghost use Rattle.common_ancestors.specs.Common.{nearest_of, distance_of};
 ghost use Rattle.common_ancestors.specs.Promises.{class_bound, climb_bound, Shares, Counts, Words};
 ghost use Rattle.premiums.specs.Quotes.{quote_to};
-ghost use Rattle.sheets.specs.Verdicts.{check_to, bands_on};
+ghost use Rattle.sheets.specs.Verdicts.{told, check_to, bands_on};
 ghost use Rattle.sheets.specs.Checked.{Checked};
 ghost use Rattle.pricing.specs.Quotes.{price_to};
 ghost use Rattle.pricing.specs.Promises.{QuotationWords};
@@ -18,7 +18,8 @@ ghost use Rattle.exports.specs.ReplyWords.{reply_words, verdict_words};
 
 use answers::ANSWER_WORDS;
 use base::limits::{space_words, table_words};
-use base::{Node, Sum};
+use base::numbers::ACCEPTED;
+use base::{Node, Refusal, Sum, reply_words};
 use common_ancestors::{Sought, answer_words};
 use sheets::SHEET_WORDS;
 
@@ -50,8 +51,8 @@ pub extern "C" fn tantsheko_prepare(
     ensures written { table.new ≡ table_after parents.now table.old space.old }
     ensures left { space.new ≡ space_after parents.now table.old space.old }
 {
-    let r = prepare::prepare(parents, table, space);
-    *reply = [r.number, r.word];
+    let r = reply_words(prepare::prepare(parents, table, space));
+    *reply = [r[0], r[1]];
 }
 
 // The class of v at depth d.
@@ -151,8 +152,7 @@ pub extern "C" fn tantsheko_premium(
 pub extern "C" fn tantsheko_sheet(table: &[u32], text: &[u8], d: u32, verdict: &mut [u32; 3])
     ensures { verdict.new ≡ verdict_words (check_to table.now d text.now) }
 {
-    let r = sheets::check(table, text, d);
-    *verdict = [r.number, r.word, r.amount];
+    *verdict = verdict_of(sheets::check(table, text, d));
 }
 
 // As `tantsheko_sheet`; an accepted sheet is written to words of the caller's.
@@ -168,8 +168,17 @@ pub extern "C" fn tantsheko_checked_sheet(
     ensures kept { ((check_to table.now d text.now).number ≡ 0 → ⊥) → sheet.new ≡ sheet.old }
     ensures checked { (check_to table.now d text.now).number ≡ 0 → Checked sheet.new d (bands_on table.now d text.now) }
 {
-    let r = sheets::check_into(table, text, d, sheet);
-    *verdict = [r.number, r.word, r.amount];
+    *verdict = verdict_of(sheets::check_into(table, text, d, sheet));
+}
+
+// A check's answer in words: its number, the lines or what the refusal names, and the amount beside it.
+fn verdict_of(checked: Result<u32, Refusal>) -> [u32; 3]
+    ensures { result ≡ verdict_words (told checked) }
+{
+    match checked {
+        Ok(lines) => [ACCEPTED, lines, 0],
+        Err(refusal) => [refusal.number(), refusal.word(), refusal.amount()],
+    }
 }
 
 // The premium of a sum insured for v at rating level d, by the text of a sheet.

@@ -8,15 +8,14 @@ use base::{Cents, Sum};
 pub fn size(sum: Sum) -> u64
     ensures { result ≡ nat_abs sum.0 }
 {
-    let x = sum.0;
-    if x < 0 { (-1 - x) as u64 + 1 } else { x as u64 }
+    sum.0.unsigned_abs()
 }
 
 // Whether a sum is below zero.
 pub(crate) fn negative(sum: Sum) -> bool
     ensures { result ≡ negative sum.0 }
 {
-    sum.0 < 0
+    sum.0.is_negative()
 }
 
 // A size with a sign.
@@ -24,9 +23,6 @@ pub(crate) fn signed(negative: bool, n: u64) -> Cents
     requires { n < 2 ^ 63 }
     ensures { result.0 ≡ with_sign negative n }
 {
-    if negative {
-        Cents(0 - (n as i64))
-    } else {
-        Cents(n as i64)
-    }
+    let cents = n as i64;
+    Cents(if negative { -cents } else { cents })
 }

@@ -1,17 +1,15 @@
 -- The price of a class by its rate in the list, and behind a lookup. Assumes nothing.
-use mathlib.Core.Path.{◌≡◌, refl}
-use mathlib.Core.Bool.{Bool, true, false, cond}
+use mathlib.Core.Path.{◌≡◌, ap, ◌∙◌}
 use mathlib.Core.List.{List}
-use Prim.Native.Nat.{ℕ, ◌+◌, ◌≤◌, ◌<◌}
+use Prim.Native.Nat.{ℕ, ◌≤◌, ◌<◌}
 use lib.ListN.{length, get_or}
-use lib.Dec.{ltb, lit≤}
 use lib.IntN.{ℤ}
+use native.Mathlib.Omega.{arith}
 use borrow.Author.Tests.{lt-ltb, le-ltb, eq-eqb, ne_eqb}
+use Rattle.std.specs.Prelude.{Some, None, slice_get}
+use Rattle.std.proofs.lemmas.Option.{slice_get-get_or, slice_get_within, get_or_from_slice_get}
 use Rattle.base.specs.Numbers.{Outcome, bad_rate}
-use Rattle.base.specs.Amounts.{most_rate}
 use Rattle.money.specs.Prices.{refused, priced}
-use Rattle.money.proofs.Prices.{priced-over}
-use Rattle.premiums.specs.Parts.{rate_at}
 use Rattle.premiums.specs.Quotes.{class_price, price_of}
 
 module _ (rates : List ℕ) (sum : ℤ) where
@@ -23,14 +21,15 @@ module _ (rates : List ℕ) (sum : ℤ) where
   unfolding class_price
   class-listed class h = simp (lt-ltb class (length rates) h)
 
-  -- a rate that stands for none is refused as none is
-  pub class-rate : (class : ℕ) → priced class (rate_at rates class) sum ≡ class_price rates sum class
-  unfolding rate_at class_price
-  class-rate class = go (ltb class (length rates))
-    where
-      go : (b : Bool) → priced class (cond b (get_or rates class 0) (most_rate + 1)) sum ≡ cond b (priced class (get_or rates class 0) sum) (refused bad_rate)
-      go true = refl
-      go false = priced-over class (most_rate + 1) sum (lit≤ tt)
+  -- the same by a rate of the list, if it has one
+  pub class-unlisted : (class : ℕ) → slice_get rates class ≡ None → class_price rates sum class ≡ refused bad_rate
+  class-unlisted class e =
+      let none : class < length rates → ⊥ = λ h. let q = slice_get-get_or rates class 0 h in cc in
+      class-past class (omega arith)
+
+  pub class-rated : (class rate : ℕ) → slice_get rates class ≡ Some rate → class_price rates sum class ≡ priced class rate sum
+  class-rated class rate e =
+      class-listed class (slice_get_within rates class rate e) ∙ ap (λ x. priced class x sum) (get_or_from_slice_get rates class rate 0 e)
 
   pub price-unfound : (o : Outcome) → (o.number ≡ 0 → ⊥) → price_of rates sum o ≡ refused o
   unfolding price_of

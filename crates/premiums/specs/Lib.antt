@@ -1,5 +1,4 @@
 -- What a premium question answers, when each number comes, and what it promises.
 pub mod Quotes
-pub mod Parts
 pub mod Cases
 pub mod Promises

@@ -1,23 +1,18 @@
 // The premium of a sum insured: the class by the rating lookup, its rate from a list of rates, and the cents.
 #![tactic(auto)]
 
-ghost use Rattle.std.specs.Prelude.{◌≡◌, List, [], ◌∷◌, ℕ};
+ghost use Rattle.std.specs.Prelude.{◌≡◌, List, [], ◌∷◌, ℕ, slice_get};
 ghost use Rattle.tree.specs.Questions.{rating_of};
 ghost use Rattle.answers.specs.Answers.{answer_words};
 ghost use Rattle.answers.specs.Promises.{Gives, Few};
 ghost use Rattle.premiums.specs.Promises.{Local, Right};
-ghost use Rattle.premiums.specs.Parts.{rate_at};
 ghost use Rattle.premiums.specs.Quotes.{price_of, quote_to};
 
 use answers::{ANSWER_WORDS, Answer};
-use base::amounts::MOST_RATE;
-use base::numbers::ACCEPTED;
+use base::numbers::{ACCEPTED, BAD_RATE};
 use base::{Cents, Node, Sum};
 use money::{Price, priced, refused};
 use query::{rating, rating_words};
-
-// Stands for the rate of an entry past the list's end: it is over the limit.
-const NO_RATE: u32 = MOST_RATE + 1;
 
 // An answer with the money: number, class and the cells of the rating lookup, and the premium.
 #[derive(Clone, Copy)]
@@ -67,23 +62,22 @@ pub fn premium_words(
     price.cents
 }
 
-// The rate of an entry, or one over the limit where the list has none for it.
-fn rate_at(rates: &[u32], entry: u32) -> u32
-    ensures { result ≡ rate_at rates.now entry }
+// The rate of an entry, if the list has one for it.
+fn rate_at(rates: &[u32], entry: u32) -> Option<u32>
+    ensures { result ≡ slice_get rates.now entry }
 {
-    let at = entry as usize;
-    if at < rates.len() {
-        return rates[at];
-    }
-    NO_RATE
+    rates.get(entry as usize).copied()
 }
 
-// The price behind a rating lookup of that number and word, whose word has that rate.
-fn after_lookup(number: u32, word: u32, rate: u32, sum: Sum) -> Price
-    ensures { (rates : List ℕ) → rate ≡ rate_at rates word → result ≡ price_of rates sum.0 (record { number = number; word = word }) }
+// The price behind a rating lookup of that number and word, whose word has that rate, if the list has one for it.
+fn after_lookup(number: u32, word: u32, rate: Option<u32>, sum: Sum) -> Price
+    ensures { (rates : List ℕ) → rate ≡ slice_get rates word → result ≡ price_of rates sum.0 (record { number = number; word = word }) }
 {
     if number != ACCEPTED {
         return refused(number, word);
     }
-    priced(word, rate, sum)
+    match rate {
+        Some(rate) => priced(word, rate, sum),
+        None => refused(BAD_RATE, 0),
+    }
 }

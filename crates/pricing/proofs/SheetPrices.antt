@@ -9,8 +9,7 @@ use Rattle.base.specs.Numbers.{Outcome, accepted, bad_sum, gap}
 use Rattle.base.specs.Amounts.{most_sum}
 use Rattle.money.specs.Premium.{premium}
 use Rattle.bands.specs.Bands.{Band, band_of}
-use Rattle.sheets.specs.Verdicts.{naming}
-use Rattle.sheets.specs.declared.Verdict.{Verdict}
+use Rattle.sheets.specs.Verdicts.{Verdict, naming}
 use Rattle.pricing.specs.Quotes.{costing, refusing, sheet_premium, class_price, sheet_price}
 
 -- the price of a class

@@ -24,8 +24,7 @@ use Rattle.climbs.proofs.Questions.{rating-right}
 use Rattle.bands.specs.Bands.{Band, band_of}
 use Rattle.bands.proofs.Theorems.{accepted-band}
 use Rattle.sheets.specs.Texts.{sheet_of, bands_in}
-use Rattle.sheets.specs.Verdicts.{verdict, depths_of, check_to, bands_on, Good}
-use Rattle.sheets.specs.declared.Verdict.{Verdict}
+use Rattle.sheets.specs.Verdicts.{Verdict, verdict, depths_of, check_to, bands_on, Good}
 use Rattle.sheets.proofs.Theorems.{good-verdict, check-right, checked-good, depths-right, covered-iff}
 use Rattle.pricing.specs.Promises.{Priced}
 use Rattle.pricing.specs.Quotes.{class_price, sheet_price, price, looked, price_to, price_on}

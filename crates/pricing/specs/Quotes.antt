@@ -11,8 +11,7 @@ use Rattle.answers.specs.declared.Cells.{Cells}
 use Rattle.money.specs.Premium.{premium}
 use Rattle.bands.specs.Bands.{Band, band_of}
 use Rattle.sheets.specs.Texts.{sheet_of, bands_in}
-use Rattle.sheets.specs.Verdicts.{naming, verdict, depths_of, check_to, bands_on}
-use Rattle.sheets.specs.declared.Verdict.{Verdict}
+use Rattle.sheets.specs.Verdicts.{Verdict, naming, verdict, depths_of, check_to, bands_on}
 use Rattle.pricing.specs.declared.prices.SheetPrice.{SheetPrice}
 use Rattle.pricing.specs.declared.BandQuote.{BandQuote}
 use Rattle.pricing.specs.declared.Money.{Money}

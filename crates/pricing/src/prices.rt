@@ -10,7 +10,7 @@ use base::amounts::MOST_SUM;
 use base::numbers::{ACCEPTED, BAD_SUM, GAP};
 use base::{Cents, Node, Sum};
 use money::{priced, size};
-use sheets::{Found, SHEET_WORDS, check_into, find};
+use sheets::{SHEET_WORDS, check_into, find};
 
 // The number of an answer, the class or what the refusal names, the amount that 14 and 15 name besides, and the premium.
 #[derive(Clone, Copy)]
@@ -48,11 +48,10 @@ pub(crate) fn by_text(
         return refused(number, word, 0);
     }
     let mut sheet = [0u64; SHEET_WORDS];
-    let verdict = check_into(table, text, d, &mut sheet);
-    if verdict.number != ACCEPTED {
-        return refused(verdict.number, verdict.word, verdict.amount);
+    match check_into(table, text, d, &mut sheet) {
+        Ok(_) => by_bands(&sheet, word, sum),
+        Err(refusal) => refused(refusal.number(), refusal.word(), refusal.amount()),
     }
-    by_bands(&sheet, word, sum)
 }
 
 // The price by a checked sheet, where the rating lookup has that number and word.
@@ -74,22 +73,15 @@ fn by_bands(sheet: &[u64; SHEET_WORDS], class: u32, sum: Sum) -> SheetPrice
     if MOST_SUM < amount {
         return refused(BAD_SUM, 0, 0);
     }
-    let found = find(sheet, Node(class), amount);
-    match found {
-        Found::Range {
-            from: _,
-            to: _,
-            rate,
-        } => {
-            let price = priced(class, rate, sum);
-            let cents = price.cents;
-            SheetPrice {
-                number: price.number,
-                word: price.word,
-                amount: 0,
-                cents,
-            }
-        }
-        Found::Nothing => refused(GAP, class, amount as u32),
+    let Some(range) = find(sheet, Node(class), amount) else {
+        return refused(GAP, class, amount as u32);
+    };
+    let price = priced(class, range.rate, sum);
+    let cents = price.cents;
+    SheetPrice {
+        number: price.number,
+        word: price.word,
+        amount: 0,
+        cents,
     }
 }

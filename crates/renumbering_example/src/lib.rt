@@ -7,25 +7,17 @@ ghost use Rattle.table.specs.Preparing.{table_after, space_after};
 ghost use Rattle.renumbering_example.specs.Offices.{office, premium_from, price_from};
 ghost use Rattle.renumbering_example.specs.Promises.{SamePremiums, PaidPremium, SamePrices, PaidPrice};
 
-use base::numbers::ACCEPTED;
 use base::{Cents, Node, Sum};
 use money::{Price, refused};
 use premiums::premium;
 use prepare::prepare;
 use pricing::{SheetPrice, price};
 
-// What a sum costs for one barn at two offices, by rates.
+// What a sum costs for one barn at two offices.
 #[derive(Clone, Copy)]
-pub struct TwoPremiums {
-    pub first: Price,
-    pub second: Price,
-}
-
-// The same by sheets.
-#[derive(Clone, Copy)]
-pub struct TwoPrices {
-    pub first: SheetPrice,
-    pub second: SheetPrice,
+pub struct Both<T> {
+    pub first: T,
+    pub second: T,
 }
 
 // The premium of a sum for an entry of an office's list: its table is prepared and asked. A list that is turned away gives preparing's refusal.
@@ -42,9 +34,8 @@ fn premium_from(
     ensures written { table.new ≡ table_after parents.now table.old space.old }
     ensures left { space.new ≡ space_after parents.now table.old space.old }
 {
-    let reply = prepare(parents, table, space);
-    if reply.number != ACCEPTED {
-        return refused(reply.number, reply.word);
+    if let Err(refusal) = prepare(parents, table, space) {
+        return refused(refusal.number(), refusal.word());
     }
     let quote = premium(table, rates, v, d, sum);
     let answer = quote.answer;
@@ -70,11 +61,10 @@ fn price_from(
     ensures written { table.new ≡ table_after parents.now table.old space.old }
     ensures left { space.new ≡ space_after parents.now table.old space.old }
 {
-    let reply = prepare(parents, table, space);
-    if reply.number != ACCEPTED {
+    if let Err(refusal) = prepare(parents, table, space) {
         return SheetPrice {
-            number: reply.number,
-            word: reply.word,
+            number: refusal.number(),
+            word: refusal.word(),
             amount: 0,
             cents: Cents(0),
         };
@@ -103,7 +93,7 @@ pub fn two_premiums(
     space: &mut [u32],
     d: u32,
     sum: Sum,
-) -> TwoPremiums
+) -> Both<Price>
     ensures first { result.first ≡ premium_from (office list1.now rates1.now table1.old space.old v.0) d sum.0 }
     ensures second { result.second ≡ premium_from (office list2.now rates2.now table2.old space.old w.0) d sum.0 }
     ensures same { SamePremiums (office list1.now rates1.now table1.old space.old v.0) (office list2.now rates2.now table2.old space.old w.0) result.first result.second }
@@ -114,7 +104,7 @@ pub fn two_premiums(
 {
     let one = premium_from(list1, rates1, table1, space, v, d, sum);
     let other = premium_from(list2, rates2, table2, space, w, d, sum);
-    TwoPremiums {
+    Both {
         first: one,
         second: other,
     }
@@ -133,7 +123,7 @@ pub fn two_prices(
     space: &mut [u32],
     d: u32,
     sum: Sum,
-) -> TwoPrices
+) -> Both<SheetPrice>
     ensures first { result.first ≡ price_from (office list1.now text1.now table1.old space.old v.0) d sum.0 }
     ensures second { result.second ≡ price_from (office list2.now text2.now table2.old space.old w.0) d sum.0 }
     ensures same { SamePrices d (office list1.now text1.now table1.old space.old v.0) (office list2.now text2.now table2.old space.old w.0) result.first result.second }
@@ -144,7 +134,7 @@ pub fn two_prices(
 {
     let one = price_from(list1, text1, table1, space, v, d, sum);
     let other = price_from(list2, text2, table2, space, w, d, sum);
-    TwoPrices {
+    Both {
         first: one,
         second: other,
     }

@@ -29,9 +29,8 @@ use Rattle.bands.specs.Bands.{Fault, is_class, holds, covers, sheet_fault}
 use Rattle.bands.proofs.Tests.{covered-depth, class-says, class-is}
 use Rattle.bands.proofs.Theorems.{accepted-iff, fault-numbered}
 use Rattle.sheets.specs.Texts.{Sheet, bad, whole, sheet_of}
-use Rattle.sheets.specs.Verdicts.{naming, judged, verdict, depths_of, depths_in, check_to, Good}
+use Rattle.sheets.specs.Verdicts.{Verdict, naming, judged, verdict, depths_of, depths_in, check_to, Good}
 use Rattle.sheets.specs.Promises.{Gives, Right, Accepts}
-use Rattle.sheets.specs.declared.Verdict.{Verdict}
 use Rattle.sheets.proofs.Checks.{check-opened, check-refused}
 
 -- "the check gives 0 if and only if no line is bad and each class has each amount in one band only"

@@ -2,8 +2,7 @@
 use Rattle.std.specs.Prelude.{◌≡◌, List, true, ℕ, ◌↔◌}
 use Rattle.base.specs.Lists.{has}
 use Rattle.table.specs.Preparing.{Prepared}
-use Rattle.sheets.specs.Verdicts.{depths_of, verdict, Good}
-use Rattle.sheets.specs.declared.Verdict.{Verdict}
+use Rattle.sheets.specs.Verdicts.{Verdict, depths_of, verdict, Good}
 
 -- the number is one of a list
 abbrev pub Gives : List ℕ → Verdict → Type 0

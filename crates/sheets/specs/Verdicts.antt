@@ -1,5 +1,5 @@
 -- The check of a sheet of rating level d, for every table and every text (2026-02). Assumes nothing.
-use Rattle.std.specs.Prelude.{◌≡◌, List, cond, ℕ, length, eqb}
+use Rattle.std.specs.Prelude.{◌≡◌, List, cond, ℕ, length, eqb, Result, Ok, Err}
 use Rattle.std.proofs.Math.Option.{Option-elim}
 use Rattle.base.specs.Lists.{below, view}
 use Rattle.base.specs.Limits.{depth_start}
@@ -9,11 +9,23 @@ use Rattle.query.specs.StepOne.{step_one}
 use Rattle.bands.specs.Bands.{Band, sheet_fault}
 use Rattle.bands.specs.Accepted.{Accepted}
 use Rattle.sheets.specs.Texts.{Sheet, bad, whole, sheet_of, bands_in}
-use Rattle.sheets.specs.declared.Verdict.{Verdict}
+use Rattle.base.specs.declared.refusals.Refusal.{Refusal}
+use Rattle.base.specs.Refusals.{refused, amount_of}
+
+-- the number of an answer, the number of lines or what the refusal names, and the amount that 14 and 15 name besides
+pub record Verdict : Type 0 where
+  pub number : ℕ
+  pub word : ℕ
+  pub amount : ℕ
 
 -- an outcome, and the amount that it names beside its word
 abbrev pub naming : Outcome → ℕ → Verdict
 naming o amount = record { number = o.number; word = o.word; amount = amount }
+
+-- the code's answer: how many lines an accepted sheet has, or a refusal
+abbrev pub told : Result ℕ Refusal → Verdict
+told (Ok lines) = naming (accepted lines) 0
+told (Err refusal) = naming (refused refusal) (amount_of refusal)
 
 -- "it refuses the first bad line, .. then, whichever the named amount has, a gap (14) or an overlap (15)"; "Acceptance names the number of lines"
 unfoldable pub judged : List ℕ → ℕ → Sheet → Verdict

@@ -19,11 +19,12 @@ const TOP_BIT: u64 = 9223372036854775808;
 
 const LOW_BITS: u64 = TOP_BIT - 1;
 
-// The amounts of a band, and its rate; or no band.
+// The amounts of a band, and its rate.
 #[derive(Clone, Copy)]
-pub enum Found {
-    Range { from: u32, to: u64, rate: u32 },
-    Nothing,
+pub struct Range {
+    pub from: u32,
+    pub to: u64,
+    pub rate: u32,
 }
 
 // The level of a checked sheet.
@@ -34,16 +35,7 @@ pub fn level_of(sheet: &[u64; SHEET_WORDS]) -> u32
 }
 
 // The band that holds an amount of a class. In words that hold no checked sheet it may be any band, with a rate within its limit.
-pub fn find(sheet: &[u64; SHEET_WORDS], class: Node, amount: u64) -> Found
-    ensures found { (d : ℕ) (bs : List Band) → Checked sheet.now d bs → found_band class.0 result ≡ band_of bs class.0 amount }
-    ensures limit { Within most_rate result }
-{
-    find_in(sheet, class, amount)
-}
-
-// As `find`, in a slice of so many words.
-fn find_in(sheet: &[u64], class: Node, amount: u64) -> Found
-    requires { length sheet.now ≡ sheet_words }
+pub fn find(sheet: &[u64; SHEET_WORDS], class: Node, amount: u64) -> Option<Range>
     ensures found { (d : ℕ) (bs : List Band) → Checked sheet.now d bs → found_band class.0 result ≡ band_of bs class.0 amount }
     ensures limit { Within most_rate result }
 {
@@ -71,50 +63,50 @@ fn stated_lines(head: u64) -> usize
 }
 
 // The last band that begins at the amount or before it, where it holds it.
-fn band_in(keys: &[u64], words: &[u64], class: Node, amount: u64) -> Found
+fn band_in(keys: &[u64], words: &[u64], class: Node, amount: u64) -> Option<Range>
     requires { length words.now ≡ most_lines }
     ensures found { Legal words.now keys.now → Ascending keys.now → Single (key_bands words.now keys.now) class.0 → found_band class.0 result ≡ band_of (key_bands words.now keys.now) class.0 amount }
     ensures limit { Within most_rate result }
 {
     let wanted = class.0;
     if MOST_ENTRIES <= wanted {
-        return Found::Nothing;
+        return None;
     }
     if MOST_SUM < amount {
-        return Found::Nothing;
+        return None;
     }
     let end = below(
         keys,
         wanted as u64 * CLASS_UNIT + amount * FROM_UNIT + FROM_UNIT,
     );
     if end == 0 {
-        return Found::Nothing;
+        return None;
     }
     let key = keys[end - 1];
     range_of(key, words[line_of(key)], class, amount)
 }
 
 // The band of a key and its line's word, where it is of a class and reaches an amount.
-fn range_of(key: u64, word: u64, class: Node, amount: u64) -> Found
+fn range_of(key: u64, word: u64, class: Node, amount: u64) -> Option<Range>
     ensures { (found_band class.0 result ≡ range_at key word class.0 amount) × Within most_rate result }
 {
     let wanted = class.0;
     let to = to_of(word);
     let rate = rate_of(word);
     if class_of(key) != wanted {
-        return Found::Nothing;
+        return None;
     }
     if to < amount {
-        return Found::Nothing;
+        return None;
     }
     if MOST_RATE < rate {
-        return Found::Nothing;
+        return None;
     }
-    Found::Range {
+    Some(Range {
         from: from_of(key),
         to,
         rate,
-    }
+    })
 }
 
 // How many keys are below x, where they are in increasing order and each below the top bit. What is below x is told by the top bit of a difference, and not by a

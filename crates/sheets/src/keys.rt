@@ -2,8 +2,10 @@
 ghost use Rattle.std.specs.Prelude.{◌≡◌, List, [], ◌∷◌, ◌++◌, ◌+◌, ◌≤◌, ◌<◌, length};
 ghost use Rattle.base.specs.Limits.{most_entries};
 ghost use Rattle.base.specs.Amounts.{most_lines, most_sum, most_rate};
-ghost use Rattle.bands.specs.Bands.{Band};
+ghost use Rattle.bands.specs.Bands as bands;
 ghost use Rattle.sheets.specs.Keys.{key_class, key_from, key_line, word_to, word_rate, Stored};
+
+use lines::band_lines::Band;
 
 // What one class, one amount and one line count in a key, and one amount in a word.
 pub const CLASS_UNIT: u64 = 8796093022208;
@@ -45,18 +47,10 @@ pub(crate) fn rate_of(word: u64) -> u32
 }
 
 // A line's band behind those that are stored.
-pub(crate) fn lay(
-    keys: &mut [u64],
-    words: &mut [u64],
-    at: usize,
-    class: u32,
-    from: u32,
-    to: u32,
-    rate: u32,
-)
-    requires { (at < most_lines) × (at < length keys.old) × (at < length words.old) × (class < most_entries) × (from ≤ to) × (to ≤ most_sum) × (rate ≤ most_rate) }
-    ensures { (bs : List Band) → Stored words.old keys.old at bs → Stored words.new keys.new (at + 1) (bs ++ (record { class = class; from = from; to = to; rate = rate } ∷ [])) }
+pub(crate) fn lay(keys: &mut [u64], words: &mut [u64], at: usize, band: Band)
+    requires { (at < most_lines) × (at < length keys.old) × (at < length words.old) × (band.class.0 < most_entries) × (band.from ≤ band.to) × (band.to ≤ most_sum) × (band.rate ≤ most_rate) }
+    ensures { (bs : List bands.Band) → Stored words.old keys.old at bs → Stored words.new keys.new (at + 1) (bs ++ (record { class = band.class.0; from = band.from; to = band.to; rate = band.rate } ∷ [])) }
 {
-    keys[at] = class as u64 * CLASS_UNIT + from as u64 * FROM_UNIT + at as u64;
-    words[at] = to as u64 * TO_UNIT + rate as u64;
+    keys[at] = band.class.0 as u64 * CLASS_UNIT + band.from as u64 * FROM_UNIT + at as u64;
+    words[at] = band.to as u64 * TO_UNIT + band.rate as u64;
 }

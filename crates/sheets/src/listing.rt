@@ -8,22 +8,9 @@ ghost use Rattle.sheets.specs.Listings.{LineRead, ListingOf};
 
 use crate::keys::lay;
 use crate::sweeping::is_covered;
+use base::Refusal;
 use base::amounts::{MOST_LINES, MOST_RATE, MOST_SUM};
-use lines::band_lines::read_band;
-
-// The first bad line's number, or how many lines there are.
-#[derive(Clone, Copy)]
-pub enum Listing {
-    Bad(u32),
-    Whole(usize),
-}
-
-// The place behind a line whose band was stored, or a bad line.
-#[derive(Clone, Copy)]
-enum Line {
-    Stored(usize),
-    Bad,
-}
+use lines::band_lines::{Band, read_band};
 
 // All lines of a text.
 pub(crate) fn read_lines(
@@ -32,20 +19,20 @@ pub(crate) fn read_lines(
     d: u32,
     keys: &mut [u64],
     words: &mut [u64],
-) -> Listing
+) -> Result<usize, Refusal>
     requires { (length depths.now ≤ most_entries) × (length keys.old ≡ most_lines) × (length words.old ≡ most_lines) }
     ensures { ListingOf (sheet_of depths.now d text.now) result words.new keys.new }
 {
     let mut at: usize = 0;
     let mut k: usize = 0;
     while at < text.len() {
-        let Line::Stored(next) = read_line(text, at, depths, d, keys, words, k) else {
-            return Listing::Bad(k as u32 + 1);
+        let Some(next) = read_line(text, at, depths, d, keys, words, k) else {
+            return Err(Refusal::BadLine(k as u32 + 1));
         };
         at = next;
         k += 1;
     }
-    Listing::Whole(k)
+    Ok(k)
 }
 
 // Line k + 1, which begins at a place of a text: its band is stored behind the k before it.
@@ -57,39 +44,37 @@ fn read_line(
     keys: &mut [u64],
     words: &mut [u64],
     k: usize,
-) -> Line
+) -> Option<usize>
     requires { (length depths.now ≤ most_entries) × (length keys.old ≡ most_lines) × (length words.old ≡ most_lines) }
     ensures { LineRead depths.now d k text.now at words.old keys.old words.new keys.new result }
 {
     if MOST_LINES <= k {
-        return Line::Bad;
+        return None;
     }
-    let Some((band, next)) = read_band(text, at) else {
-        return Line::Bad;
-    };
-    if !is_band(depths, d, band.class.0, band.from, band.to, band.rate) {
-        return Line::Bad;
+    let (band, next) = read_band(text, at)?;
+    if !is_band(depths, d, band) {
+        return None;
     }
-    lay(keys, words, k, band.class.0, band.from, band.to, band.rate);
-    Line::Stored(next)
+    lay(keys, words, k, band);
+    Some(next)
 }
 
 // Whether a line of a sheet of level d may state a band.
-fn is_band(depths: &[u32], d: u32, class: u32, from: u32, to: u32, rate: u32) -> bool
-    ensures { result ≡ is_band depths.now d (record { class = class; from = from; to = to; rate = rate }) }
+fn is_band(depths: &[u32], d: u32, band: Band) -> bool
+    ensures { result ≡ is_band depths.now d (record { class = band.class.0; from = band.from; to = band.to; rate = band.rate }) }
 {
-    let at = class as usize;
+    let at = band.class.0 as usize;
     if depths.len() <= at {
         return false;
     }
     if !is_covered(d, depths[at]) {
         return false;
     }
-    if to < from {
+    if band.to < band.from {
         return false;
     }
-    if MOST_SUM < to as u64 {
+    if MOST_SUM < band.to as u64 {
         return false;
     }
-    rate <= MOST_RATE
+    band.rate <= MOST_RATE
 }

@@ -1,49 +1,34 @@
 // The lowest fault of a sheet whose keys are in increasing order.
-ghost use Rattle.std.specs.Prelude.{◌≡◌, ℕ, ◌≤◌, ◌<◌, length, get_or};
+ghost use Rattle.std.specs.Prelude.{◌≡◌, ℕ, ◌≤◌, ◌<◌, length, get_or, Ok, Err};
+ghost use Rattle.base.specs.Amounts.{most_sum};
 ghost use Rattle.base.specs.Limits.{most_entries};
+ghost use Rattle.base.specs.declared.refusals.Refusal.TheVariants.{Gap};
 ghost use Rattle.bands.specs.Bands.{is_covered, sheet_fault};
 ghost use Rattle.sorting.specs.Orders.{Ascending};
 ghost use Rattle.sheets.specs.Keys.{key_class, key_bands, Legal};
-ghost use Rattle.sheets.specs.Parts.{Says, Ended, Swept, NextClass, NoClass, none_of_four};
+ghost use Rattle.sheets.specs.Parts.{Tells, SweptTo, NextClass, NoClass, none_of_four};
 
-use crate::Verdict;
 use crate::keys::{class_of, from_of, line_of, to_of};
-use base::Node;
 use base::amounts::MOST_SUM;
-use base::numbers::{ACCEPTED, GAP, OVERLAP};
-
-// What the sweep of one class finds: 0, or 14 or 15 with the amount; and the place where it stopped.
-#[derive(Clone, Copy)]
-pub struct Part {
-    pub number: u32,
-    pub amount: u32,
-    pub place: usize,
-}
+use base::{Node, Refusal};
 
 // The lowest fault of a sheet of level d: of its classes in increasing number the first that has one.
-pub(crate) fn lowest_fault(keys: &[u64], words: &[u64], depths: &[u32], d: u32) -> Verdict
+pub(crate) fn lowest_fault(
+    keys: &[u64],
+    words: &[u64],
+    depths: &[u32],
+    d: u32,
+) -> Result<(), Refusal>
     requires { (Legal words.now keys.now) × (Ascending keys.now) × (length depths.now ≤ most_entries) }
-    ensures { Says (sheet_fault depths.now d (key_bands words.now keys.now)) result.number result.word result.amount }
+    ensures { Tells (sheet_fault depths.now d (key_bands words.now keys.now)) result }
 {
     let mut class = next_class(depths, d, 0);
     let mut place: usize = 0;
     while class < depths.len() {
-        let part = sweep(keys, words, place, Node(class as u32));
-        if part.number != ACCEPTED {
-            return Verdict {
-                number: part.number,
-                word: class as u32,
-                amount: part.amount,
-            };
-        }
-        place = part.place;
+        place = sweep(keys, words, place, Node(class as u32))?;
         class = next_class(depths, d, class + 1);
     }
-    Verdict {
-        number: ACCEPTED,
-        word: 0,
-        amount: 0,
-    }
+    Ok(())
 }
 
 // The first entry from a place on that a sheet of level d is to cover, or the number of entries.
@@ -51,14 +36,12 @@ fn next_class(depths: &[u32], d: u32, from: usize) -> usize
     requires { from ≤ length depths.now }
     ensures { NextClass depths.now d from result }
 {
-    let mut i = skip_eights(depths, d, from);
-    while i < depths.len() {
+    for i in skip_eights(depths, d, from)..depths.len() {
         if is_covered(d, depths[i]) {
             return i;
         }
-        i += 1;
     }
-    i
+    depths.len()
 }
 
 // Whether a sheet of level d is to cover an entry of that depth.
@@ -98,59 +81,40 @@ fn none_of_four(d: u32, a: u32, b: u32, c: u32, e: u32) -> bool
     !is_covered(d, a) & !is_covered(d, b) & !is_covered(d, c) & !is_covered(d, e)
 }
 
-// The fault of one class. Before `start` there are only bands of lower classes.
-fn sweep(keys: &[u64], words: &[u64], start: usize, class: Node) -> Part
+// The place behind the bands of one class, or its fault. Before `start` there are only bands of lower classes.
+fn sweep(keys: &[u64], words: &[u64], start: usize, class: Node) -> Result<usize, Refusal>
     requires { (Legal words.now keys.now) × (Ascending keys.now) × (start ≤ length keys.now) × ((i : ℕ) → i < start → key_class (get_or keys.now i 0) < class.0) }
-    ensures { Swept words.now keys.now class.0 result.number result.amount result.place }
+    ensures { SweptTo words.now keys.now class.0 result }
 {
-    let wanted = class.0;
-    let mut place = start;
     let mut next: u64 = 0;
-    while place < keys.len() {
+    for place in start..keys.len() {
         let key = keys[place];
         let own = class_of(key);
-        if own < wanted {
-            place += 1;
-        } else if wanted < own {
-            return ended(next, place);
-        } else {
-            let from = from_of(key) as u64;
-            if next < from {
-                return Part {
-                    number: GAP,
-                    amount: next as u32,
-                    place,
-                };
-            }
-            if from < next {
-                return Part {
-                    number: OVERLAP,
-                    amount: from as u32,
-                    place,
-                };
-            }
-            next = to_of(words[line_of(key)]) + 1;
-            place += 1;
+        if own < class.0 {
+            continue;
         }
+        if class.0 < own {
+            return ended(class, next, place);
+        }
+        let from = from_of(key) as u64;
+        if next < from {
+            return Err(Refusal::Gap(class, next as u32));
+        }
+        if from < next {
+            return Err(Refusal::Overlap(class, from as u32));
+        }
+        next = to_of(words[line_of(key)]) + 1;
     }
-    ended(next, place)
+    ended(class, next, keys.len())
 }
 
 // The bands of the class have ended, and hold each amount below `next` once.
-fn ended(next: u64, place: usize) -> Part
-    ensures { Ended next place result.number result.amount result.place }
+fn ended(class: Node, next: u64, place: usize) -> Result<usize, Refusal>
+    ensures full { most_sum < next → result ≡ Ok place }
+    ensures short { next ≤ most_sum → result ≡ Err (Gap class next) }
 {
     if next <= MOST_SUM {
-        Part {
-            number: GAP,
-            amount: next as u32,
-            place,
-        }
-    } else {
-        Part {
-            number: ACCEPTED,
-            amount: 0,
-            place,
-        }
+        return Err(Refusal::Gap(class, next as u32));
     }
+    Ok(place)
 }

@@ -1,8 +1,7 @@
 -- `tantsheko_sheet` meets its contract. Assumes nothing.
-use mathlib.Core.Path.{ap}
+use mathlib.Core.Path.{ap, ◌∙◌}
 use Rattle.exports.specs.ReplyWords.{verdict_words}
 use Rattle.exports.proofs.tantsheko_sheet.Goals as goal
 
 pub returns : goal.returns
-unfolding verdict_words
-returns c = ap verdict_words c.check-r.ensures.answer
+returns c = c.verdict_of.ensures ∙ ap verdict_words c.check.ensures.answer

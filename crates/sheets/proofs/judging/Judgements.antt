@@ -16,11 +16,10 @@ use Rattle.bands.specs.Bands.{Band, Fault, is_band, sheet_fault, SameBands}
 use Rattle.bands.proofs.SameBands.{covers-same, fault-same}
 use Rattle.bands.proofs.Theorems.{accepted-iff, fault-numbered, single-bands}
 use Rattle.sheets.specs.Texts.{whole}
-use Rattle.sheets.specs.Verdicts.{naming, judged}
+use Rattle.sheets.specs.Verdicts.{Verdict, naming, judged}
 use Rattle.sheets.specs.Keys.{key_bands, Legal, Stored}
 use Rattle.sheets.specs.Checked.{Checked}
 use Rattle.sheets.specs.Parts.{Says}
-use Rattle.sheets.specs.declared.Verdict.{Verdict}
 use Rattle.sheets.proofs.judging.Words.{checked-words}
 use Rattle.sheets.proofs.judging.Orders.{same-bands, legal-shuffled}
 

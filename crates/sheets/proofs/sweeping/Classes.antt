@@ -6,10 +6,14 @@ use native.Mathlib.Omega.{arith}
 use native.Mathlib.Decide.{ℕ_discrete, dec_le}
 use lib.ListN.{length, get_or}
 use Rattle.base.specs.Amounts.{most_sum}
-use Rattle.bands.specs.Bands.{Band, holds, covers, class_fault}
+use Rattle.bands.specs.Bands.{Band, holds, covers}
 use Rattle.sorting.specs.Orders.{Ascending}
 use Rattle.sheets.specs.Keys.{key_class, key_from, key_line, word_to, band_at, key_bands, Legal}
-use Rattle.sheets.specs.Parts.{Says, Ended, Swept}
+use Rattle.std.specs.Prelude.{Result, Ok, Err}
+use Rattle.base.specs.declared.Node.{Node}
+use Rattle.base.specs.declared.refusals.Refusal.{Refusal}
+use Rattle.base.specs.declared.refusals.Refusal.TheVariants.{Gap}
+use Rattle.sheets.specs.Parts.{Says, Swept, SweptTo}
 use Rattle.base.proofs.Counting.{count_map, count-sum}
 use Rattle.sheets.proofs.sweeping.Fills.{hit, over, Filled, filled_none, filled-other, filled_more, rest_over, twice-over}
 use Rattle.bands.proofs.Faults.{gap_is, overlap-is, fine-is}
@@ -100,13 +104,24 @@ module _ (words keys : List ℕ) where
         passed = s.passed;
       }
 
-      pub sweep-end : ((k : ℕ) → place ≤ k → k < length keys → c < cls k) → (number amount at : ℕ) → Ended next place number amount at → Swept words keys c number amount at
+      pub sweep-end : ((k : ℕ) → place ≤ k → k < length keys → c < cls k) → (class : Node) → class.0 ≡ c → (r : Result ℕ Refusal)
+          → (most_sum < next → r ≡ Ok place) → (next ≤ most_sum → r ≡ Err (Gap class next)) → SweptTo words keys c r
       unfolding Says
-      sweep-end past number amount at r = record { says = go (dec_le next most_sum); places = omega (arith, r.stays, s.places); passed = λ i k. s.passed i (omega (arith, r.stays)) }
+      sweep-end past class e r full short = go (dec_le next most_sum)
         where
           held : (a : ℕ) → covers bs c a ≡ over cls frm upto c a place
           held a = settled (a + 1) (λ k p q e. absurd (omega (arith, past k p q))) a (omega arith)
 
-          go : Dec (next ≤ most_sum) → Says (class_fault bs c) number c amount
-          go (yes d) = rw (gap_is bs c next d (held next ∙ s.filled.free next (omega arith)) (λ a b. held a ∙ s.filled.once a b)) ((r.low d).0, refl, (r.low d).1)
-          go (no d) = rw (fine-is bs c (λ a b. held a ∙ s.filled.once a (omega arith))) (r.full (omega arith))
+          go : Dec (next ≤ most_sum) → SweptTo words keys c r
+          go (yes d) = rw (short d) (
+            place,
+            e,
+            record {
+              says = rw (gap_is bs c next d (held next ∙ s.filled.free next (omega arith)) (λ a b. held a ∙ s.filled.once a b)) (refl, refl, refl);
+              places = s.places;
+              passed = s.passed;
+            },
+          )
+          go (no d) =
+              rw (full (omega arith))
+              (record { says = rw (fine-is bs c (λ a b. held a ∙ s.filled.once a (omega arith))) refl; places = s.places; passed = s.passed })

@@ -22,23 +22,23 @@ abbrev unnamed : Price → SheetPrice
 unnamed q = record { number = q.number; word = q.word; amount = 0; cents = q.cents }
 
 -- the amount's band, from what was found
-pub returns-in-Range : goal.returns-in-Range
-returns-in-Range c =
-    let within = rw c.in-Range.is at c.find-found.ensures.limit in
+pub returns : goal.returns
+returns c =
+    let within = rw c.in-Some.is at c.find.ensures.limit in
     let is = ap unnamed (c.priced-price.ensures ∙ priced-within _ _ _ within (omega (arith, c.size-amount.ensures))) in record {
       priced = (λ d bs k.
           is
           ∙ sym (class-held bs c.args.sum.0 c.args.class (omega (arith, c.size-amount.ensures)) _
-          (sym (ap (found_band c.args.class) (sym c.in-Range.is) ∙ c.find-found.ensures.found d bs k ∙ ap (band_of bs c.args.class) c.size-amount.ensures))));
+          (sym (ap (found_band c.args.class) (sym c.in-Some.is) ∙ c.find.ensures.found d bs k ∙ ap (band_of bs c.args.class) c.size-amount.ensures))));
       offer = record { outside = λ h. absurd (omega (arith, h, c.size-amount.ensures)); inside = λ h. inr (_, within, is) };
     }
 
-pub returns-in-Nothing : goal.returns-in-Nothing
-returns-in-Nothing c =
-    let is = c.refused-in-Nothing.ensures ∙ ap (λ x. refusing (naming (gap c.args.class) x)) c.size-amount.ensures in record {
+pub returns-in_default : goal.returns-in_default
+returns-in_default c =
+    let is = c.refused-in_default.ensures ∙ ap (λ x. refusing (naming (gap c.args.class) x)) c.size-amount.ensures in record {
       priced = (λ d bs k.
           is
           ∙ sym (class-unheld bs c.args.sum.0 c.args.class (omega (arith, c.size-amount.ensures))
-          (sym (ap (found_band c.args.class) (sym c.in-Nothing.is) ∙ c.find-found.ensures.found d bs k ∙ ap (band_of bs c.args.class) c.size-amount.ensures))));
+          (sym (ap (found_band c.args.class) (sym c.in_default.is) ∙ c.find.ensures.found d bs k ∙ ap (band_of bs c.args.class) c.size-amount.ensures))));
       offer = record { outside = λ h. absurd (omega (arith, h, c.size-amount.ensures)); inside = λ h. inl is };
     }

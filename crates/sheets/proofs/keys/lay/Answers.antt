@@ -6,4 +6,4 @@ pub returns : goal.returns
 returns c =
     let a = c.args in
     let p = c.requires in
-    stored_more a.words.now a.keys.now a.at a.class a.from a.to a.rate p.0 p.1 p.2 p.3 p.4 p.5 p.6
+    stored_more a.words.now a.keys.now a.at a.band.class.0 a.band.from a.band.to a.band.rate p.0 p.1 p.2 p.3 p.4 p.5 p.6

@@ -10,11 +10,11 @@ returns-then-depths-at c = past-entries _ _ _ _ _ _ c.if-depths-at.true
 pub returns-then-not-is_covered : goal.returns-then-not-is_covered
 returns-then-not-is_covered c = not_covered _ _ _ _ _ _ (sym c.is_covered.ensures ∙ c.if-not-is_covered.true)
 
-pub returns-then-to-from : goal.returns-then-to-from
-returns-then-to-from c = falling _ _ _ _ _ _ c.if-to-from.true
+pub returns-then-band : goal.returns-then-band
+returns-then-band c = falling _ _ _ _ _ _ c.if-band.true
 
-pub returns-then-to-gt-MOST_SUM : goal.returns-then-to-gt-MOST_SUM
-returns-then-to-gt-MOST_SUM c = past-amounts _ _ _ _ _ _ c.if-to-gt-MOST_SUM.true
+pub returns-then-band-gt-MOST_SUM : goal.returns-then-band-gt-MOST_SUM
+returns-then-band-gt-MOST_SUM c = past-amounts _ _ _ _ _ _ c.if-band-gt-MOST_SUM.true
 
 pub returns : goal.returns
 returns c = but-rate _ _ _ _ _ _ (omega arith) (sym c.is_covered.ensures ∙ c.if-not-is_covered.false) (omega arith) (omega arith)

@@ -9,12 +9,12 @@ use Rattle.sheets.proofs.listing.read_line.Goals as goal
 pub returns-then-k-ge-MOST_LINES : goal.returns-then-k-ge-MOST_LINES
 returns-then-k-ge-MOST_LINES c = read_past _ _ _ _ _ (omega arith)
 
-pub returns-in_default : goal.returns-in_default
-returns-in_default c = read-other _ _ _ _ _ (omega arith) c.in_default.ensures
+pub returns-in_err-band : goal.returns-in_err-band
+returns-in_err-band c = rw c.from_residual.ensures (read-other _ _ _ _ _ (omega arith) c.in_err-band.ensures)
 
 pub returns-then-not-is_band : goal.returns-then-not-is_band
 returns-then-not-is_band c =
-    read-bad _ _ _ _ _ (omega arith) _ _ c.in-Some.ensures c.is_band.result c.is_band.ensures (ap not c.if-not-is_band.true)
+    read-bad _ _ _ _ _ (omega arith) _ _ c.in_ok-band.ensures c.is_band.result c.is_band.ensures (ap not c.if-not-is_band.true)
 
 pub lay-requires : goal.lay-requires
 lay-requires c =
@@ -25,6 +25,6 @@ lay-requires c =
 pub returns : goal.returns
 returns c = (
   _,
-  read-good _ _ _ _ _ (omega arith) _ _ c.in-Some.ensures c.is_band.result c.is_band.ensures (ap not c.if-not-is_band.false),
+  read-good _ _ _ _ _ (omega arith) _ _ c.in_ok-band.ensures c.is_band.result c.is_band.ensures (ap not c.if-not-is_band.false),
   c.lay.ensures,
 )

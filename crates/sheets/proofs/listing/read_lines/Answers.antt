@@ -1,5 +1,6 @@
 -- `listing::read_lines` meets its contract. Assumes nothing.
-use mathlib.Core.Path.{subst}
+use mathlib.Core.Path.{refl, subst}
+use Prim.Native.Nat.{◌+◌}
 use native.Mathlib.Omega.{arith}
 use borrow.Author.Rules.{rules}
 use Rattle.sheets.specs.Listings.{LineRead}
@@ -8,16 +9,16 @@ use Rattle.sheets.proofs.listing.read_lines.Goals as goal
 
 pub returns-in_default : goal.returns-in_default
 returns-in_default c =
-    turn-bad _ _ _ _ _ _ _ c.loop-at.invariant.0 c.loop-at-test.true (subst (LineRead _ _ _ _ _ _ _ _ _) c.in_default.is c.read_line.ensures)
+    (c.loop-at.k + 1, refl, turn-bad _ _ _ _ _ _ _ c.loop-at.invariant.0 c.loop-at-test.true (subst (LineRead _ _ _ _ _ _ _ _ _) c.in_default.is c.read_line.ensures))
 
 pub loop-at-smaller : goal.loop-at-smaller
 loop-at-smaller c =
-    let r = subst (LineRead _ _ _ _ _ _ _ _ _) c.in-Stored.is c.read_line.ensures in
+    let r = subst (LineRead _ _ _ _ _ _ _ _ _) c.in-Some.is c.read_line.ensures in
     omega (arith, r.1.behind, r.1.within, r.1.found.behind)
 
 pub loop-at-preserved : goal.loop-at-preserved
 loop-at-preserved c =
-    let r = subst (LineRead _ _ _ _ _ _ _ _ _) c.in-Stored.is c.read_line.ensures in
+    let r = subst (LineRead _ _ _ _ _ _ _ _ _) c.in-Some.is c.read_line.ensures in
     (turn_more _ _ _ _ _ _ _ c.loop-at.invariant.0 r.0 _ r.1 _ _ r.2, search rules, search rules)
 
 pub returns : goal.returns

@@ -1,11 +1,6 @@
 -- `sweeping::next_class` meets its contract. Assumes nothing.
-use Prim.Native.Nat.{◌-◌}
-use lib.ListN.{length}
 use Rattle.sheets.specs.Parts.{NoClass}
 use Rattle.sheets.proofs.sweeping.next_class.Given as goal
 
 abbrev pub invariant-loop-i : goal.invariant-loop-i
 invariant-loop-i l = NoClass l.depths l.d l.from l.i
-
-abbrev pub decreases-loop-i : goal.decreases-loop-i
-decreases-loop-i l = length l.depths - l.i

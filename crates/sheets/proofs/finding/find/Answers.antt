@@ -1,11 +1,11 @@
--- `finding::find_in` meets its contract. Assumes nothing.
+-- `finding::find` meets its contract. Assumes nothing.
 use mathlib.Core.Path.{◌≡◌}
 use Prim.Native.Nat.{◌+◌, ◌-◌}
 use native.Mathlib.Omega.{arith}
 use Rattle.base.specs.Lists.{view}
 use Rattle.sheets.specs.Parts.{found_band}
 use Rattle.sheets.proofs.finding.Parts.{checked-band}
-use Rattle.sheets.proofs.finding.find_in.Goals as goal
+use Rattle.sheets.proofs.finding.find.Goals as goal
 
 pub returns : goal.returns
 unfolding view
