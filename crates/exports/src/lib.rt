@@ -90,7 +90,7 @@ pub extern "C" fn tantsheko_ancestry(
     ensures { answer.new ≡ answer_words (answer_to table.now (ancestry (length table.now) u v)) }
 {
     let found = query::ancestry(table, Node(u), Node(v));
-    *answer = found.words();
+    *answer = found.into();
 }
 
 // The child of u on the way to v.
@@ -99,7 +99,7 @@ pub extern "C" fn tantsheko_branch(table: &[u32], u: u32, v: u32, answer: &mut [
     ensures { answer.new ≡ answer_words (answer_to table.now (branch (length table.now) u v)) }
 {
     let found = query::branch(table, Node(u), Node(v));
-    *answer = found.words();
+    *answer = found.into();
 }
 
 // The nearest common ancestor of u and v: the class that they share.
@@ -172,6 +172,7 @@ pub extern "C" fn tantsheko_checked_sheet(
 }
 
 // A check's answer in words: its number, the lines or what the refusal names, and the amount beside it.
+#[tactic(auto, unfolding(crate::specs::ReplyWords::verdict_words))]
 fn verdict_of(checked: Result<u32, Refusal>) -> [u32; 3]
     ensures { result ≡ verdict_words (told checked) }
 {

@@ -32,22 +32,25 @@ use Rattle.renumbering_example.specs.Promises.{SamePremiums, SamePrices, Known, 
 use Rattle.renumbering_example.proofs.Refusals.{both_ways}
 
 -- from what preparing answers to an office's premium
-module _ (o : Office) (d : ℕ) (sum : ℤ) (number word : ℕ) (says : Says (preparing o.list o.table o.space) number word) where
-  pub premium-refused : (number ≡ 0 → ⊥) → refused (record { number = number; word = word }) ≡ premium_from o d sum
+module _ (o : Office) (d : ℕ) (sum : ℤ) (x : Outcome) (is : x ≡ preparing o.list o.table o.space) where
+  says : Says (preparing o.list o.table o.space) x.number x.word
+  says = (ap (λ (p : Outcome). p.number) is, ap (λ (p : Outcome). p.word) is)
+
+  pub premium-refused : (x.number ≡ 0 → ⊥) → refused x ≡ premium_from o d sum
   unfolding premium_from
-  premium-refused z = sym (refused-is o.list o.table o.space number word says (price_of o.tariff sum (rating_of o.list o.entry d)) refused z)
+  premium-refused z = sym (refused-is o.list o.table o.space x.number x.word says (price_of o.tariff sum (rating_of o.list o.entry d)) refused z)
 
-  pub premium-asked : number ≡ 0 → price_of o.tariff sum (rating_of o.list o.entry d) ≡ premium_from o d sum
+  pub premium-asked : x.number ≡ 0 → price_of o.tariff sum (rating_of o.list o.entry d) ≡ premium_from o d sum
   unfolding premium_from
-  premium-asked z = sym (accepted-is o.list o.table o.space number word says (price_of o.tariff sum (rating_of o.list o.entry d)) refused z)
+  premium-asked z = sym (accepted-is o.list o.table o.space x.number x.word says (price_of o.tariff sum (rating_of o.list o.entry d)) refused z)
 
-  pub price-refused : (number ≡ 0 → ⊥) → refusing (record { number = number; word = word; amount = 0 }) ≡ price_from o d sum
+  pub price-refused : (x.number ≡ 0 → ⊥) → refusing (naming x 0) ≡ price_from o d sum
   unfolding price_from
-  price-refused z = sym (refused-is o.list o.table o.space number word says (price_on o.list o.tariff o.entry d sum) (λ x. refusing (naming x 0)) z)
+  price-refused z = sym (refused-is o.list o.table o.space x.number x.word says (price_on o.list o.tariff o.entry d sum) (λ y. refusing (naming y 0)) z)
 
-  pub price-asked : number ≡ 0 → price_on o.list o.tariff o.entry d sum ≡ price_from o d sum
+  pub price-asked : x.number ≡ 0 → price_on o.list o.tariff o.entry d sum ≡ price_from o d sum
   unfolding price_from
-  price-asked z = sym (accepted-is o.list o.table o.space number word says (price_on o.list o.tariff o.entry d sum) (λ x. refusing (naming x 0)) z)
+  price-asked z = sym (accepted-is o.list o.table o.space x.number x.word says (price_on o.list o.tariff o.entry d sum) (λ y. refusing (naming y 0)) z)
 
 -- a refusal of preparing: the same number, and no cents
 refused-both : (r : ℕ → ℕ) (o i : Outcome) → (o.number ≡ 0 → ⊥) → i.number ≡ o.number → SamePremium r (refused o) (refused i)

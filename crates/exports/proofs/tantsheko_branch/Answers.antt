@@ -4,4 +4,4 @@ use Rattle.answers.specs.Answers.{answer_words}
 use Rattle.exports.proofs.tantsheko_branch.Goals as goal
 
 pub returns : goal.returns
-returns c = c.words.ensures ∙ ap answer_words c.branch-found.ensures.answer
+returns c = c.into.ensures ∙ ap answer_words c.branch-found.ensures.answer
