@@ -1,7 +1,7 @@
 // Two answers to one question, by two offices' tables.
 ghost use Rattle.std.specs.Prelude.{◌≤◌};
 
-use answers::Answer;
+use answers::{ANSWER_WORDS, Answer};
 use samples::tally::Tally;
 
 // How many questions were asked, how many answers differ, and of how many questions the cells do, and their count.
@@ -62,10 +62,8 @@ impl Pair {
     fn differs(&self, from: usize) -> bool
         requires { from ≤ 18 }
     {
-        let first = self.first;
-        let second = self.second;
-        let a = first.words();
-        let b = second.words();
+        let a: [u32; ANSWER_WORDS] = self.first.into();
+        let b: [u32; ANSWER_WORDS] = self.second.into();
         &a[from..] != &b[from..]
     }
 
