@@ -22,7 +22,7 @@ const LINES: usize = 10;
 // The table of a list.
 fn lay(parents: &[u32], table: &mut [u32]) {
     let mut space = [0u32; 3075];
-    prepare::prepare(parents, table, &mut space);
+    let _ = prepare::prepare(parents, table, &mut space);
 }
 
 // The k-th small tree with a kind of list of rates.

@@ -4,6 +4,7 @@ ghost use Rattle.std.specs.Prelude.{◌≤◌, length};
 use crate::laid::lay;
 use crate::verdict::judge;
 use crate::words::{clear, soil};
+use base::reply_words;
 use samples::cases::case_at;
 use samples::refusals::{Refusal, numbers};
 
@@ -65,7 +66,8 @@ pub(crate) fn trial(line: usize, k: usize) -> usize {
     soil(cells);
     soil(words);
     let reply = prepare::prepare(list, &mut cells[..case.table], &mut words[..case.space]);
-    unlike(reply.number, reply.word, answer)
+    let said = reply_words(reply);
+    unlike(said[0], said[1], answer)
         .wrapping_add(table_differences(list, answer, cells))
         .wrapping_add(space_differences(case.n, answer, words))
 }

@@ -1,11 +1,14 @@
 // The class that two entries share and the climbs between them, held to two plain climbs; on a damaged table to what turns the question away.
 use crate::asking::{Outcome, Trial};
-use base::{Node, Reply};
+use base::{Node, reply_words};
 use common_ancestors::{distance, nearest_common_ancestor};
 use plain_steps::entries;
 use samples::refusals::{Refusal, numbers};
 use samples::tally::Tally;
 use samples::words::{TOP, get, narrow};
+
+// The engine's reply.
+type Reply = Result<u32, base::Refusal>;
 
 // How many climbs lead from v to u, where some do.
 pub(crate) fn apart(parents: &[u32], u: usize, v: usize) -> Option<usize> {
@@ -44,16 +47,17 @@ fn first_shared(parents: &[u32], u: usize, v: usize) -> Option<Shared> {
 
 // Whether a reply is what it is to be.
 fn gives(reply: Reply, want: Outcome) -> Tally {
+    let said = reply_words(reply);
     let (number, word) = numbers(want);
-    Tally::of(reply.number as usize == number && reply.word as usize == word)
+    Tally::of(said[0] as usize == number && said[1] as usize == word)
 }
 
 // A reply of less than a bound, or that the table is broken.
 fn within(reply: Reply, bound: usize) -> Tally {
-    if reply.number != 0 {
-        return gives(reply, Err(Refusal::Broken));
+    match reply {
+        Ok(word) => Tally::of((word as usize) < bound),
+        Err(_) => gives(reply, Err(Refusal::Broken)),
     }
-    Tally::of((reply.word as usize) < bound)
 }
 
 impl<'a> Trial<'a> {

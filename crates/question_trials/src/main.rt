@@ -38,7 +38,7 @@ const TO_DAMAGE: [usize; 6] = [0, 25, 48, 77, 128, 161];
 // The table of a list.
 fn lay(parents: &[u32], table: &mut [u32]) {
     let mut space = [0u32; 3075];
-    prepare::prepare(parents, table, &mut space);
+    let _ = prepare::prepare(parents, table, &mut space);
 }
 
 // Every question on the k-th list of a kind.

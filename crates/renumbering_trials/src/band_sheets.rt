@@ -2,7 +2,7 @@
 use crate::asking::{Offices, SUMS, sum_at};
 use crate::comparing::{Count, Pair, total};
 use crate::numbering::renumber_lines;
-use base::{Node, Sum};
+use base::{Node, Sum, reply_words};
 use plain_sheets::classes::Classes;
 use plain_sheets::judging;
 use plain_sheets::line_words::ROOM;
@@ -78,10 +78,10 @@ impl<'a> Sheets<'a> {
     fn tried(&self, seed: usize) -> Count {
         let offices = self.offices;
         let depth = narrow(self.level);
-        let first = check(offices.table, self.text, depth);
-        let second = check(offices.other_table, self.other_text, depth);
-        let accepted = Count::without_cells(alike(first.number, second.number));
-        if first.number != 0 {
+        let first = reply_words(check(offices.table, self.text, depth));
+        let second = reply_words(check(offices.other_table, self.other_text, depth));
+        let accepted = Count::without_cells(alike(first[0], second[0]));
+        if first[0] != 0 {
             return accepted;
         }
         accepted.plus(self.all_prices(seed))

@@ -17,6 +17,7 @@ use crate::comparing::{Count, total};
 use crate::numbering::{lay_numbers, renumber_list, renumber_rates};
 use crate::printed::say;
 use crate::trees::{Rated, lay_rates};
+use base::reply_words;
 use plain_sheets::classes::Classes;
 use samples::cases::{ANY, GROWN, KINDS, case_at, count_at};
 use samples::seeds::next;
@@ -42,8 +43,8 @@ const OF_SHEETS: usize = 80;
 // Prepares the table of a list. Answers preparing's number.
 fn lay(parents: &[u32], table: &mut [u32]) -> u32 {
     let mut space = [0u32; 3075];
-    let reply = prepare::prepare(parents, table, &mut space);
-    reply.number
+    let reply = reply_words(prepare::prepare(parents, table, &mut space));
+    reply[0]
 }
 
 // The table of a list that is renumbered. Answers preparing's number.

@@ -1,6 +1,6 @@
 // The check of one sheet and one question with it, held to what they are to answer.
 use answers::Answer;
-use base::{Node, Sum};
+use base::{Node, Sum, reply_words};
 use plain_sheets::judging::Due;
 use plain_steps::Walk;
 use pricing::BandQuote;
@@ -8,16 +8,21 @@ use samples::amounts::signed;
 use samples::refusals::{Refusal, numbers};
 use samples::tally::Tally;
 use samples::words::{narrow, wide};
-use sheets::{SHEET_WORDS, Verdict};
+use sheets::SHEET_WORDS;
 
 // Whether a verdict is what it is to be.
-fn same_verdict(given: Verdict, want: Result<usize, Refusal>) -> bool {
+fn same_verdict(given: Result<u32, base::Refusal>, want: Result<usize, Refusal>) -> bool {
+    let said = reply_words(given);
+    let beside = match given {
+        Ok(_) => 0,
+        Err(refusal) => refusal.amount(),
+    };
     let (number, word) = numbers(want);
     let amount = match want {
         Ok(_) => 0,
         Err(refusal) => refusal.amount(),
     };
-    wide(given.number) == number && wide(given.word) == word && wide(given.amount) == amount
+    wide(said[0]) == number && wide(said[1]) == word && wide(beside) == amount
 }
 
 pub(crate) fn check(table: &[u32], text: &[u8], d: u32, want: Result<usize, Refusal>) -> Tally {

@@ -32,7 +32,7 @@ const WORD: u64 = 18446744073709551557;
 // The table of a list.
 fn lay(parents: &[u32], table: &mut [u32]) {
     let mut space = [0u32; 3075];
-    prepare::prepare(parents, table, &mut space);
+    let _ = prepare::prepare(parents, table, &mut space);
 }
 
 // What the check is to answer.
