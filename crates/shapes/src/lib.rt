@@ -4,7 +4,7 @@
 mod numbering;
 mod packed;
 
-ghost use Rattle.std.specs.Prelude.{◌≡◌};
+ghost use Rattle.std.specs.Prelude.{◌≡◌, ◌<◌};
 ghost use Rattle.base.specs.Limits.{group_limit};
 ghost use Rattle.shapes.specs.Climbs.{row_of, rows_of, Rule};
 ghost use Rattle.shapes.specs.Packed.{cell_in, out_in, Packs};
@@ -19,15 +19,11 @@ pub fn rows(shape: u32) -> [[u8; LOCAL_NUMBERS]; LOCAL_NUMBERS]
     ensures table { result ≡ rows_of group_limit shape }
     ensures rule { Rule group_limit shape result }
 {
-    [
-        row(shape, 0),
-        row(shape, 1),
-        row(shape, 2),
-        row(shape, 3),
-        row(shape, 4),
-        row(shape, 5),
-        row(shape, 6),
-    ]
+    let mut rows = [[NO_LOCAL; LOCAL_NUMBERS]; LOCAL_NUMBERS];
+    for (local, cells) in rows.iter_mut().enumerate() {
+        *cells = row(shape, local as u32);
+    }
+    rows
 }
 
 // The row of climbs of one local number of a shape, for every number of either.
@@ -35,34 +31,25 @@ pub fn row(shape: u32, local: u32) -> [u8; LOCAL_NUMBERS]
     ensures { result ≡ row_of group_limit shape local }
 {
     let climbs = climbs_of(shape, local);
-    [
-        climbs.reached(0),
-        climbs.reached(1),
-        climbs.reached(2),
-        climbs.reached(3),
-        climbs.reached(4),
-        climbs.reached(5),
-        climbs.reached(6),
-    ]
+    let mut row = [NO_LOCAL; LOCAL_NUMBERS];
+    for (k, cell) in row.iter_mut().enumerate() {
+        *cell = climbs.reached(k as u32);
+    }
+    row
 }
 
 // The field of one local number in its shape's word: a lookup takes one cell of the row by it without building the row.
 #[derive(Clone, Copy)]
 pub struct Climbs(pub u32);
 
-// The field of one local number of a shape, for every number of either. A word of 0 is answered at once: where there is no such shape, the range test that the compiler
-// makes for the match is then the only one.
+// The field of one local number of a shape, for every number of either.
 pub fn climbs_of(shape: u32, local: u32) -> Climbs
     ensures { Packs shape local result.0 }
 {
     if LOCAL_SPAN <= local {
         return Climbs(0);
     }
-    let word = fields(shape);
-    if word == 0 {
-        return Climbs(0);
-    }
-    Climbs(field(word, local))
+    Climbs(field(fields(shape), local))
 }
 
 impl Climbs {

@@ -1,5 +1,5 @@
 // The number of a group's shape, from the depths of its entries.
-ghost use Rattle.std.specs.Prelude.{◌≡◌, ◌-◌, ◌≤◌, ◌<◌, length};
+ghost use Rattle.std.specs.Prelude.{◌≡◌, ◌-◌, ◌≤◌, ◌<◌, length, unwrap_or};
 ghost use Rattle.base.specs.Limits.{group_limit, shape_count};
 ghost use Rattle.base.specs.Lists.{below};
 ghost use Rattle.shapes.specs.Packed.{byte};
@@ -25,35 +25,33 @@ pub fn number(depths: &[u32], from: Position, entries: usize) -> u32
         return SHAPE_COUNT;
     }
     let end = from.0 as usize + entries;
-    ranked(&depths[from.0 as usize..end])
+    ranked(&depths[from.0 as usize..end]).unwrap_or(SHAPE_COUNT)
 }
 
-// The number of the shape of a group, from the depths of its entries in preorder; 197 where they are not those of a group. Each entry adds the walks
+// The number of the shape of a group, from the depths of its entries in preorder; none where they are not those of a group. Each entry adds the walks
 // that part from the group's own there by going down from deeper than the entry's parent.
-fn ranked(group: &[u32]) -> u32
+fn ranked(group: &[u32]) -> Option<u32>
     requires { (0 < length group.now) × (length group.now ≤ group_limit) }
-    ensures { Numbered group.now result }
+    ensures { Numbered group.now (unwrap_or result shape_count) }
 {
     let root = group[0];
-    let mut sum = smaller(group.len() - 1);
+    let below_root = &group[1..];
+    let mut sum = smaller(below_root.len());
     let mut at: u32 = 0;
-    let mut i: usize = 1;
-    while i < group.len() {
-        let depth = group[i];
-        if depth <= root {
-            return SHAPE_COUNT;
+    for (i, depth) in below_root.iter().enumerate() {
+        if *depth <= root {
+            return None;
         }
-        let below = depth - root;
+        let below = *depth - root;
         if at + 1 < below {
-            return SHAPE_COUNT;
+            return None;
         }
-        let ways = ways(group.len() - i);
+        let ways = ways(below_root.len() - i);
         let before = byte(ways, at) - byte(ways, below - 1);
         sum += before as u32;
         at = below;
-        i += 1;
     }
-    sum
+    Some(sum)
 }
 
 // The shapes of at most 0 to 6 entries: a byte for each count, the first lowest.

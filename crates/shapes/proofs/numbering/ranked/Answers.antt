@@ -3,7 +3,9 @@ use mathlib.Core.Path.{◌≡◌, refl, sym, ap, ◌∙◌}
 use mathlib.Core.List.{List}
 use Prim.Native.Nat.{ℕ, ◌+◌, ◌-◌, ◌≤◌, ◌<◌}
 use native.Mathlib.Omega.{arith}
-use lib.ListN.{length, get_or}
+use lib.ListN.{length, get_or, take, drop, length-drop}
+use Rattle.std.proofs.lemmas.List.{take_rest}
+use Rattle.std.proofs.lemmas.Grind.{get_or_after_one}
 use Rattle.base.specs.Limits.{group_limit, shape_count}
 use Rattle.base.specs.Lists.{below}
 use Rattle.base.proofs.Lists.{below_at}
@@ -11,7 +13,7 @@ use Rattle.shapes.specs.Walks.{walks}
 use Rattle.shapes.specs.Packed.{byte}
 use Rattle.shapes.specs.Numbered.{Numbered}
 use Rattle.shapes.proofs.Rank.{ways}
-use Rattle.shapes.proofs.RankTurns.{fall, Ranked, start, small, finish, group-is, due, stepped}
+use Rattle.shapes.proofs.RankTurns.{fall, Ranked, small, finish, group-is, due, stepped}
 use Rattle.shapes.proofs.numbering.ranked.Goals as goal
 
 -- what one turn counts: a and b are the ways from the last entry, and from the parent of this
@@ -44,71 +46,49 @@ module _ {group : List ℕ} {sum at i : ℕ} (r : Ranked group_limit group sum a
     none = λ n. let t = group-is group_limit group sum at i r h in absurd (n t.0 _ t.1);
   }
 
-pub bounds-group-0 : goal.bounds-group-0
-bounds-group-0 c = omega arith
+-- the entries below the root, as the loop goes over them
+abbrev below_root : List ℕ → List ℕ
+below_root group = take (length group - 1) (drop 1 group)
 
-pub overflow_sub-group : goal.overflow_sub-group
-overflow_sub-group c = omega arith
+module _ {group : List ℕ} {sum at i : ℕ} (r : Ranked group_limit group sum at (i + 1)) where
+  module _ (h : i < length (below_root group)) where
+    inside : i + 1 < length group
+    inside = omega (arith, ap length (take_rest group 1), length-drop 1 group)
 
-pub smaller-sum-requires : goal.smaller-sum-requires
-smaller-sum-requires c = omega arith
+    entry : get_or (below_root group) i 0 ≡ get_or group (i + 1) 0
+    entry = let k : 1 + i ≡ i + 1 = omega arith in ap (λ l. get_or l i 0) (take_rest group 1) ∙ get_or_after_one group i 0 ∙ ap (λ j. get_or group j 0) k
 
-pub loop-i-init : goal.loop-i-init
-loop-i-init c = rw c.smaller-sum.ensures (start group_limit _ c.requires.0 c.requires.1)
+    refused_there : (get_or group 0 0 < get_or (below_root group) i 0 → get_or (below_root group) i 0 - get_or group 0 0 ≤ at + 1 → ⊥) → Numbered group shape_count
+    refused_there never = refused r inside (rw entry at never)
 
-pub offset_bounds-group-i : goal.offset_bounds-group-i
-offset_bounds-group-i c = omega arith
+    turned : (word : ℕ) {a b : ℕ} → get_or group 0 0 < get_or (below_root group) i 0 → get_or (below_root group) i 0 - get_or group 0 0 ≤ at + 1
+        → below (group_limit - (length (below_root group) - i)) (byte word) ≡ below (group_limit - (length (below_root group) - i)) (λ c. length (walks (length (below_root group) - i) c))
+        → a ≡ byte word at → b ≡ byte word (get_or (below_root group) i 0 - get_or group 0 0 - 1) → Turn group sum at (i + 1) a b
+    turned word low high e p q =
+        let left : length (below_root group) - i ≡ length group - (i + 1) = omega (arith, ap length (take_rest group 1), length-drop 1 group) in
+        turn r word inside (rw entry at low) (rw entry at high) (rw left at e) p (rw entry at q)
 
-pub bounds-group-i : goal.bounds-group-i
-bounds-group-i c = omega arith
+  ended : length (below_root group) ≤ i → Numbered group sum
+  ended h = done r (omega (arith, ap length (take_rest group 1), length-drop 1 group))
 
 pub returns-then-depth-root : goal.returns-then-depth-root
-returns-then-depth-root c = refused c.loop-i.invariant c.loop-i-test.true (λ low high. omega arith)
-
-pub overflow_sub-below : goal.overflow_sub-below
-overflow_sub-below c = omega arith
-
-pub overflow_add-at : goal.overflow_add-at
-overflow_add-at c = omega arith
+returns-then-depth-root c = refused_there c.loop-i.invariant c.loop-i-test.true (λ low high. omega arith)
 
 pub returns-then-at-below : goal.returns-then-at-below
-returns-then-at-below c = refused c.loop-i.invariant c.loop-i-test.true (λ low high. omega arith)
-
-pub overflow_sub-group-in-loop-i : goal.overflow_sub-group-in-loop-i
-overflow_sub-group-in-loop-i c = omega arith
-
-pub ways-ways-requires : goal.ways-ways-requires
-ways-ways-requires c = omega arith
-
-pub byte-requires : goal.byte-requires
-byte-requires c = omega (arith, c.loop-i.invariant.low)
-
-pub overflow_sub-below-in-loop-i : goal.overflow_sub-below-in-loop-i
-overflow_sub-below-in-loop-i c = omega arith
-
-pub byte-requires-in-loop-i : goal.byte-requires-in-loop-i
-byte-requires-in-loop-i c = omega (arith, c.loop-i.invariant.low)
+returns-then-at-below c = refused_there c.loop-i.invariant c.loop-i-test.true (λ low high. omega arith)
 
 pub overflow_sub-before : goal.overflow_sub-before
 overflow_sub-before c =
-    (turn c.loop-i.invariant c.ways-ways.result c.loop-i-test.true c.if-depth-root.false c.if-at-below.false c.ways-ways.ensures c.byte.ensures c.byte-in-loop-i.ensures).fewer
-
-pub overflow_cast-sum : goal.overflow_cast-sum
-overflow_cast-sum c = omega arith
+    (turned c.loop-i.invariant c.loop-i-test.true c.ways-ways.result c.if-depth-root.false c.if-at-below.false c.ways-ways.ensures c.byte.ensures c.byte-in-loop-i.ensures).fewer
 
 pub overflow_add-sum : goal.overflow_add-sum
 overflow_add-sum c =
-    omega (arith, (turn c.loop-i.invariant c.ways-ways.result c.loop-i-test.true c.if-depth-root.false c.if-at-below.false c.ways-ways.ensures c.byte.ensures c.byte-in-loop-i.ensures).fits)
-
-pub overflow_add-i : goal.overflow_add-i
-overflow_add-i c = omega arith
-
-pub loop-i-smaller : goal.loop-i-smaller
-loop-i-smaller c = omega arith
+    omega (arith, (turned c.loop-i.invariant c.loop-i-test.true c.ways-ways.result c.if-depth-root.false c.if-at-below.false c.ways-ways.ensures c.byte.ensures c.byte-in-loop-i.ensures).fits)
 
 pub loop-i-preserved : goal.loop-i-preserved
 loop-i-preserved c =
-    (turn c.loop-i.invariant c.ways-ways.result c.loop-i-test.true c.if-depth-root.false c.if-at-below.false c.ways-ways.ensures c.byte.ensures c.byte-in-loop-i.ensures).next
+    rw (entry c.loop-i.invariant c.loop-i-test.true)
+    (turned c.loop-i.invariant c.loop-i-test.true c.ways-ways.result c.if-depth-root.false c.if-at-below.false c.ways-ways.ensures c.byte.ensures c.byte-in-loop-i.ensures).next
 
 pub returns : goal.returns
-returns c = done c.loop-i.invariant c.loop-i-test.false
+returns c = ended c.loop-i.invariant c.loop-i-test.false
