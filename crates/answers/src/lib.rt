@@ -13,14 +13,14 @@ pub const PLACES: usize = 15;
 
 pub const ANSWER_WORDS: usize = PLACES + 3;
 
-// The cells read, in the order read. Places past the count are 0.
+// The cells read, in the order read. Places past the count are 0. An array with its count, as document 01 and the C interface have them.
 #[derive(Clone, Copy, PartialEq, Eq)]
 pub struct Cells {
     pub at: [u32; PLACES],
     pub count: u32,
 }
 
-// An answer: its number and result word, up to fifteen cell numbers and their count.
+// An answer: its number and result word, up to fifteen cell numbers and their count. A number and a word, and no Result, as document 01 and the C interface have them.
 #[derive(Clone, Copy, PartialEq, Eq)]
 pub struct Answer {
     pub number: u32,
@@ -49,7 +49,7 @@ impl Cells {
     }
 
     // The list with one cell more. A full list stays as it is. Each arm stores at a constant place, so that the compiler can hold a list whose count it
-    // knows in registers.
+    // knows in registers: stored at the count, a level lookup takes 128 instructions in place of 124, and ancestry 114 in place of 59.
     pub fn push(self, cell: u32) -> Cells
         ensures { result ≡ pushed self cell }
     {

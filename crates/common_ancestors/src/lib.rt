@@ -17,7 +17,7 @@ use answers::{ANSWER_WORDS, Answer, Cells};
 use base::{Node, Refusal};
 use query::{Table, opened};
 
-// What is asked of two entries: the class that they share, or the climbs between them.
+// What is asked of two entries: the class that they share, or the climbs between them. No closure, since the C functions then have a search each, some 20 ns slower.
 #[derive(Clone, Copy)]
 pub enum Sought {
     Class,

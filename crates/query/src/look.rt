@@ -139,7 +139,7 @@ fn climbed(entry: Entry, climbs: Option<u32>, words: &mut [u32; ANSWER_WORDS])
 }
 
 // Past step 2, from the cell of DEPTH of an entry to so many climbs above it, at depth d: KIND is n cells on. The parameters stand in an order
-// in which few registers are moved between the C functions and this one.
+// in which few registers are moved between the C functions and this one; as one `Asked` they make a level lookup take 138 instructions in place of 124.
 #[inline(never)]
 fn above(table: &[u32], climbs: u32, cell: u32, d: u32, words: &mut [u32; ANSWER_WORDS], n: u32)
     requires { (Sized table.now n) × (cell + n < table_words n) × (d < n) }

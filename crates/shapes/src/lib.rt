@@ -53,7 +53,7 @@ pub fn climbs_of(shape: u32, local: u32) -> Climbs
 }
 
 impl Climbs {
-    // The local number that so many climbs reach, 255 where there is none.
+    // The local number that so many climbs reach, 255 where there is none: no Option, since the shape table's cells are promised (`cell_in`, `Packs`; docs/DEMANDS).
     pub fn reached(self, climbs: u32) -> u8
         ensures { result ≡ cell_in self.0 climbs }
     {
@@ -67,7 +67,7 @@ impl Climbs {
         byte(climbs_along(path), climbs)
     }
 
-    // How many climbs lead out of the group, 0 where the shape has no such local number.
+    // How many climbs lead out of the group, 0 where the shape has no such local number: no Option, since the field's digit is promised (`out_in`, `Packs`).
     pub fn out(self) -> u32
         ensures { result ≡ out_in self.0 }
     {

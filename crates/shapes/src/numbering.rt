@@ -11,7 +11,7 @@ use base::Position;
 use base::limits::{LOCAL_NUMBERS, SHAPE_COUNT};
 
 // The number of the shape of the group whose root stands at position `from` of a list of depths in preorder and that has so many entries; 197 where
-// the depths there are not those of a group of 1 to 7 entries.
+// the depths there are not those of a group of 1 to 7 entries. 197 and no Option, as it is promised (`OfGroup`, `shape_count`; docs/DEMANDS).
 pub fn number(depths: &[u32], from: Position, entries: usize) -> u32
     ensures is { OfGroup depths.now from.0 entries (λ f. result ≡ shape_number group_limit (walk_round f)) }
     ensures small { result ≤ shape_count }
@@ -70,13 +70,15 @@ fn ways(downs: usize) -> u64
     requires { downs < group_limit }
     ensures { below (group_limit - downs) (byte result) ≡ below (group_limit - downs) (λ c. length (walks downs c)) }
 {
-    match downs {
-        0 => 0x01_01_01_01_01_01_01,
-        1 => 0x06_05_04_03_02_01,
-        2 => 0x14_0e_09_05_02,
-        3 => 0x30_1c_0e_05,
-        4 => 0x5a_2a_0e,
-        5 => 0x84_2a,
-        _ => 0x84,
-    }
+    WAYS[downs]
 }
+
+static WAYS: [u64; LOCAL_NUMBERS] = [
+    0x01_01_01_01_01_01_01,
+    0x06_05_04_03_02_01,
+    0x14_0e_09_05_02,
+    0x30_1c_0e_05,
+    0x5a_2a_0e,
+    0x84_2a,
+    0x84,
+];
