@@ -10,19 +10,23 @@ use samples::tally::Tally;
 use samples::words::{narrow, wide};
 use sheets::SHEET_WORDS;
 
-// Whether a verdict is what it is to be.
-fn same_verdict(given: Result<u32, base::Refusal>, want: Result<usize, Refusal>) -> bool {
-    let said = reply_words(given);
-    let beside = match given {
-        Ok(_) => 0,
-        Err(refusal) => refusal.amount(),
-    };
+// Whether a number with what it names, and the amount beside it, are what they are to be.
+fn same(said: [u32; 2], beside: u32, want: Result<usize, Refusal>) -> bool {
     let (number, word) = numbers(want);
     let amount = match want {
         Ok(_) => 0,
         Err(refusal) => refusal.amount(),
     };
     wide(said[0]) == number && wide(said[1]) == word && wide(beside) == amount
+}
+
+// Whether a check's answer is what it is to be.
+fn same_verdict(given: Result<u32, base::Refusal>, want: Result<usize, Refusal>) -> bool {
+    let beside = match given {
+        Ok(_) => 0,
+        Err(refusal) => refusal.amount(),
+    };
+    same(reply_words(given), beside, want)
 }
 
 pub(crate) fn check(table: &[u32], text: &[u8], d: u32, want: Result<usize, Refusal>) -> Tally {
@@ -70,14 +74,10 @@ impl Question {
     fn is_answered(&self, given: BandQuote, negative: bool) -> bool {
         let answer = given.answer;
         let money = given.cents;
-        let verdict = Verdict {
-            number: answer.number,
-            word: answer.word,
-            amount: given.amount,
-        };
+        let said = [answer.number, answer.word];
         let size = self.want.map_or(0, |due| due.cents);
         self.is_walked(answer)
-            && same_verdict(verdict, self.want.map(|due| due.class))
+            && same(said, given.amount, self.want.map(|due| due.class))
             && money.0 == signed(negative, size)
     }
 
