@@ -7,7 +7,7 @@ ghost use Rattle.judge.specs.Regions.{Linked};
 
 use base::Node;
 
-// The preorder and the depths; hands back how many entries there are.
+// The preorder and the depths; hands back how many entries there are. The loop goes along the chains, by no index.
 // `pending` holds the pending chains of later siblings, the latest first, up to its end: as many as the current entry has entries above it.
 pub(crate) fn walk(
     parents: &[u32],

@@ -7,7 +7,7 @@ ghost use Rattle.prepare.specs.Stages.{Walked};
 use crate::measure::{above, measures};
 use crate::order::Preorder;
 use crate::records::jump_section;
-use crate::sections::{family_sections, header_cells, order_sections, path_sections};
+use crate::sections::{header_cells, sections};
 
 // The table of a list, from its preorder and its depths in the first two regions of the space. The other regions have a word for each position too: the sizes,
 // the positions of the entries above, the heights and the positions of the long children. The positions on a climb stand before the heights in their place;
@@ -30,9 +30,7 @@ pub(crate) fn fill_table(parents: &[u32], table: &mut [u32], space: &mut [u32])
         depths,
         aboves,
     };
-    let counts = family_sections(tree, sizes, table);
-    let paths = path_sections(tree, heights, longs, sizes, table);
-    order_sections(tree, table);
+    let counts = sections(tree, sizes, heights, longs, table);
     jump_section(tree, counts.jumps, sizes, table);
-    header_cells(n, counts, paths, table);
+    header_cells(n, counts, table);
 }

@@ -11,7 +11,8 @@ use crate::places::GROUP_WORDS;
 use base::Position;
 use base::limits::{GROUP_LIMIT, TOP_MARK};
 
-// GROUPS: each group's position, shape and parent, in preorder, and zeros behind. A position of size 7 or less, past the groups before it, starts the next.
+// GROUPS: each group's position, shape and parent, in preorder, and zeros behind. A position of size 7 or less, past the groups before it, starts the next: no `for`, since
+// the step is a group's size.
 pub(crate) fn groups(tree: Preorder, sizes: &[u32], cells: &mut [u32])
     requires { (sizes.now ≡ sizes_of tree.parents.now) × (length cells.old ≡ 3 * length tree.parents.now) }
     ensures { cells.new ≡ group_cells tree.entry.parents.now }
@@ -34,7 +35,7 @@ pub(crate) fn groups(tree: Preorder, sizes: &[u32], cells: &mut [u32])
     cells[cell..].fill(0);
 }
 
-// The entry above the one at a position, or the top mark.
+// The entry above the one at a position, or the top mark: no `Option`, since it is a word of the table.
 fn parent_word(tree: Preorder, at: Position) -> u32
     requires { at.0 < length tree.parents.now }
     ensures { result ≡ get_or (parent tree.entry.parents.now (entry_at tree.entry.parents.now at.0)) top_mark }

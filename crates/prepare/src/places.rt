@@ -6,15 +6,7 @@ pub(crate) const HEADER_CELLS: usize = limits::HEADER_CELLS as usize;
 
 pub(crate) const LADPOS: usize = limits::LADPOS as usize;
 
-pub(crate) const ORDER: usize = limits::ORDER as usize;
-
-pub(crate) const PRE: usize = limits::PRE as usize;
-
-pub(crate) const SIZE: usize = limits::SIZE as usize;
-
 pub(crate) const LADDERS: usize = limits::LADDERS as usize;
-
-pub(crate) const GROUPS: usize = limits::GROUPS as usize;
 
 pub(crate) const JUMPS: usize = limits::JUMPS as usize;
 

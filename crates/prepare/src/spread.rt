@@ -16,7 +16,7 @@ pub(crate) fn scatter(tree: Preorder, values: &[u32], cells: &mut [u32])
     }
 }
 
-// Each position into the cell of the entry that stands there.
+// Each position into the cell of the entry that stands there. Not `scatter` over any iterator: the clause on what that gives would be longer than this loop.
 pub(crate) fn positions(tree: Preorder, cells: &mut [u32])
     requires { length cells.old ≡ length tree.parents.now }
     ensures { cells.new ≡ below (length tree.entry.parents.now) (position tree.entry.parents.now) }

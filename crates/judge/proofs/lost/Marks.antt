@@ -28,9 +28,6 @@ pub record MarkedTo (ps : List ℕ) (i : ℕ) (marks : List ℕ) : Type 0 where
   pub only : (v : ℕ) → v < length ps → (get_or marks v 0 ≡ 0) ⊎ (meets_top ps v ≡ true)
 
 module _ (ps : List ℕ) (small : length ps ≤ top_mark) where
-  pub mark-none : (marks : List ℕ) → ((v : ℕ) → v < length ps → get_or marks v 0 ≡ 0) → MarkedTo ps 0 marks
-  mark-none marks h = record { done = λ k b. absurd (omega arith); only = λ v b. inl (h v b) }
-
   pub mark-more : (marks : List ℕ) (i v : ℕ) → i < length (order ps) → v ≡ get_or (order ps) i 0 → length marks ≡ length ps → MarkedTo ps i marks → MarkedTo ps (i + 1) (set marks v 1)
   mark-more marks i v h e s m =
       let (b, t) = order-meets ps small i h in

@@ -5,12 +5,12 @@ use mathlib.Core.Bool.{Bool, true, false}
 use Prim.Native.Nat.{ℕ, suc, ◌+◌, ◌≤◌, ◌<◌}
 use native.Mathlib.Omega.{arith}
 use lib.ListN.{length, set, take, length-append}
-use lib.Seq.{take-suc-set, take-set-le, take_all}
+use lib.Seq.{take-suc-set, take-set-le}
 use Rattle.base.specs.Limits.{group_limit, micro_mark}
 use Rattle.base.specs.Lists.{keep}
 use Rattle.base.proofs.Filters.{keep-few, keep-next, keep_same}
 use Rattle.tree.specs.Forest.{order}
-use Rattle.table.specs.Groups.{micro, jump_node, jump_nodes, micro_kind, kind}
+use Rattle.table.specs.Groups.{micro, jump_node, micro_kind, kind}
 use Rattle.climbs.proofs.Jumps.{jump-not, macro-kind}
 use Rattle.prepare.specs.Arrays.{OneTree, entry_at}
 use Rattle.prepare.proofs.Preorder.{Located, small, order-many, located-at}
@@ -25,11 +25,6 @@ unfolding keep
 jumps-none ps cells = refl
 
 module _ {ps : List ℕ} (t : OneTree ps) (i : ℕ) where
-  pub jumps-all : (cells : List ℕ) → length ps ≤ i → JumpsBefore ps i cells → take (length (jump_nodes group_limit ps)) cells ≡ jump_nodes group_limit ps
-  jumps-all cells h l =
-      let whole : take i (order ps) ≡ order ps = take_all i (order ps) (omega (arith, order-many t)) in
-      rw whole at l
-
   module _ (h : i < length ps) where
     abbrev v : ℕ
     v = entry_at ps i

@@ -62,9 +62,6 @@ unfolding flat_map
 rows_none {first = first} {old = old} h b r = record { room = h; behind = b; place = omega arith; within = omega arith; laid = sym (put-none old first); long = refl; reached = r }
 
 module _ {ps : List ℕ} {d p l first : ℕ} {nodes old table : List ℕ} {at i : ℕ} (s : RowsBefore ps d p l first nodes old table at i) where
-  pub rows_all : length nodes ≤ i → table ≡ put old first (flat_map (jump_record ps) nodes)
-  rows_all h = s.laid ∙ ap (λ vs. put old first (flat_map (jump_record ps) vs)) (take_all i nodes h)
-
   module _ (h : i < length nodes) where
     pub rows-room : at + record_words ≤ length table
     rows-room = omega (arith, s.place, s.long, s.room)

@@ -4,11 +4,12 @@ use mathlib.Core.Logic.{◌⊎◌, inl, inr, ⊎_elim}
 use mathlib.Core.List.{List, ◌++◌}
 use Prim.Native.Nat.{ℕ, ◌+◌, ◌*◌, ◌≤◌}
 use native.Mathlib.Omega.{arith}
-use lib.ListN.{length}
+use lib.ListN.{length, take, drop}
+use lib.Seq.{take_at, drop_at, drop-drop}
 use Rattle.base.specs.Lists.{below, view, put}
 use Rattle.base.specs.Limits.{group_limit, jump_room, record_words, table_words}
 use Rattle.base.proofs.Lists.{each-length}
-use Rattle.base.proofs.Puts.{put-length, put_view, view-join, view-all, Apart, stays}
+use Rattle.base.proofs.Puts.{view-join, view-all, Apart, stays}
 use Rattle.tree.specs.Parents.{depth}
 use Rattle.tree.specs.Forest.{size, order, position}
 use Rattle.table.specs.Ladders.{lad_pos}
@@ -23,6 +24,16 @@ use Rattle.prepare.proofs.Preorder.{small, order-many}
 piece : (a b c d e : ℕ) (l x y : List ℕ) → a + c ≡ b → c + d ≡ e → view a c l ≡ x → view b d l ≡ y → view a e l ≡ x ++ y
 piece a b c d e l x y p q f g =
     ap (λ k. view a k l) (sym q) ∙ view-join a c d l ∙ ap (λ z. z ++ view (a + c) d l) f ∙ ap (λ z. x ++ z) (ap (λ k. view k d l) p ∙ g)
+
+-- the words of a first part, and those of what stands behind it
+first : (c : ℕ) (x y : List ℕ) → length x ≡ c → view 0 c (x ++ y) ≡ x
+unfolding view
+first c x y e = take_at x y c e
+
+past : (b c a : ℕ) (x y : List ℕ) {g : ℕ} {z : List ℕ} → length x ≡ a → g ≡ a + b → view b c y ≡ z → view g c (x ++ y) ≡ z
+unfolding view
+past b c a x y e q f =
+    rw q (ap (take c) (sym (drop-drop b a (x ++ y)) ∙ ap (drop b) (drop_at x y a e)) ∙ f)
 
 module _ (ps : List ℕ) where
   abbrev n : ℕ
@@ -55,74 +66,32 @@ module _ (ps : List ℕ) where
         apart : (b c : ℕ) → 4 ≤ b → b + c ≤ 4 + 11 * n → Apart a (length x) b c
         apart b c h k = ⊎_elim (λ p. inl (omega arith)) (λ p. inr (omega arith)) o
 
-  module _ (t : List ℕ) (one : OneTree ps) (long : length t ≡ table_words n) where
-    -- KIND, SIZE and GROUPS
-    pub familied : Familied ps (put (put (put t (4 + n) (kinds_of ps)) (4 + 5 * n) (below n (size ps))) (4 + 8 * n) (group_cells ps))
-    familied =
-        let K = kinds_of ps in
-        let S = below n (size ps) in
-        let G = group_cells ps in
-        let k = each-length n 0 (kind group_limit ps) in
-        let s = each-length n 0 (size ps) in
-        let g : length G ≡ 3 * n = group-cells-length ps (small one) one.tree in
-        let t₁ = put t (4 + n) K in
-        let t₂ = put t₁ (4 + 5 * n) S in
-        let b₀ : 4 + n + length K ≤ length t = omega arith in
-        let long₁ = put-length t (4 + n) K b₀ in
-        let b₁ : 4 + 5 * n + length S ≤ length t₁ = omega arith in
-        let long₂ = put-length t₁ (4 + 5 * n) S b₁ in
-        let b₂ : 4 + 8 * n + length G ≤ length t₂ = omega arith in
-        record {
-          kinds = stays t₂ (4 + 8 * n) G b₂ (4 + n) n (inl (omega arith)) ∙ stays t₁ (4 + 5 * n) S b₁ (4 + n) n (inl (omega arith)) ∙ put_view t (4 + n) K b₀ n k;
-          sizes = stays t₂ (4 + 8 * n) G b₂ (4 + 5 * n) n (inl (omega arith)) ∙ put_view t₁ (4 + 5 * n) S b₁ n s;
-          groups = put_view t₂ (4 + 8 * n) G b₂ (3 * n) g;
-        }
-
-    -- LADDERS and LADPOS beside them
-    pub laddered : Familied ps t → let t₂ = put (put t (4 + 6 * n) (ladder_cells ps)) (4 + 2 * n) (below n (lad_pos ps)) in Familied ps t₂ × Laddered ps t₂
-    laddered f =
-        let R = ladder_cells ps in
-        let L = below n (lad_pos ps) in
-        let l = each-length n 0 (lad_pos ps) in
-        let r : length R ≡ 2 * n = ladder-cells-length ps (small one) one.tree in
-        let t₁ = put t (4 + 6 * n) R in
-        let b₀ : 4 + 6 * n + length R ≤ length t = omega arith in
-        let long₁ = put-length t (4 + 6 * n) R b₀ in
-        let b₁ : 4 + 2 * n + length L ≤ length t₁ = omega arith in (
-          familied-put t₁ (4 + 2 * n) L b₁ (inl (omega arith)) (inr (omega arith)) (inr (omega arith)) (familied-put t (4 + 6 * n) R b₀ (inl (omega arith)) (inl (omega arith)) (inr (omega arith)) f),
-          record {
-            places = put_view t₁ (4 + 2 * n) L b₁ n l;
-            rungs = stays t₁ (4 + 2 * n) L b₁ (4 + 6 * n) (2 * n) (inr (omega arith)) ∙ put_view t (4 + 6 * n) R b₀ (2 * n) r;
-          },
-        )
-
-    -- DEPTH, ORDER and PRE beside the others
-    pub sectioned : Familied ps t → Laddered ps t → Sectioned ps (put (put (put t 4 (below n (depth ps))) (4 + 3 * n) (order ps)) (4 + 4 * n) (below n (position ps)))
-    sectioned f l =
-        let D = below n (depth ps) in
-        let O = order ps in
-        let P = below n (position ps) in
-        let d = each-length n 0 (depth ps) in
-        let o = order-many one in
-        let p = each-length n 0 (position ps) in
-        let t₁ = put t 4 D in
-        let t₂ = put t₁ (4 + 3 * n) O in
-        let b₀ : 4 + length D ≤ length t = omega arith in
-        let long₁ = put-length t 4 D b₀ in
-        let b₁ : 4 + 3 * n + length O ≤ length t₁ = omega arith in
-        let long₂ = put-length t₁ (4 + 3 * n) O b₁ in
-        let b₂ : 4 + 4 * n + length P ≤ length t₂ = omega arith in
-        record {
-          families =
-              familied-put t₂ (4 + 4 * n) P b₂ (inl (omega arith)) (inr (omega arith)) (inr (omega arith))
-              (familied-put t₁ (4 + 3 * n) O b₁ (inl (omega arith)) (inr (omega arith)) (inr (omega arith)) (familied-put t 4 D b₀ (inr (omega arith)) (inr (omega arith)) (inr (omega arith)) f));
-          paths =
-              laddered-put t₂ (4 + 4 * n) P b₂ (inl (omega arith)) (inr (omega arith))
-              (laddered-put t₁ (4 + 3 * n) O b₁ (inl (omega arith)) (inr (omega arith)) (laddered-put t 4 D b₀ (inr (omega arith)) (inr (omega arith)) l));
-          depths = stays t₂ (4 + 4 * n) P b₂ 4 n (inl (omega arith)) ∙ stays t₁ (4 + 3 * n) O b₁ 4 n (inl (omega arith)) ∙ put_view t 4 D b₀ n d;
-          orders = stays t₂ (4 + 4 * n) P b₂ (4 + 3 * n) n (inl (omega arith)) ∙ put_view t₁ (4 + 3 * n) O b₁ n o;
-          pres = put_view t₂ (4 + 4 * n) P b₂ n p;
-        }
+  -- the sections side by side, behind four words
+  pub sectioned : (h d k l o p z e g r : List ℕ) → OneTree ps → length h ≡ 4 → d ≡ below n (depth ps) → k ≡ kinds_of ps → l ≡ below n (lad_pos ps) → o ≡ order ps → p ≡ below n (position ps)
+      → z ≡ below n (size ps) → e ≡ ladder_cells ps → g ≡ group_cells ps → Sectioned ps (h ++ (d ++ (k ++ (l ++ (o ++ (p ++ (z ++ (e ++ (g ++ r)))))))))
+  sectioned h d k l o p z e g r one lh ed ek el eo ep ez ee eg =
+      let ld : length d ≡ n = ap length ed ∙ each-length n 0 (depth ps) in
+      let lk : length k ≡ n = ap length ek ∙ each-length n 0 (kind group_limit ps) in
+      let ll : length l ≡ n = ap length el ∙ each-length n 0 (lad_pos ps) in
+      let lo : length o ≡ n = ap length eo ∙ order-many one in
+      let lp : length p ≡ n = ap length ep ∙ each-length n 0 (position ps) in
+      let lz : length z ≡ n = ap length ez ∙ each-length n 0 (size ps) in
+      let le : length e ≡ 2 * n = ap length ee ∙ ladder-cells-length ps (small one) one.tree in
+      let lg : length g ≡ 3 * n = ap length eg ∙ group-cells-length ps (small one) one.tree in
+      record {
+        families = record {
+          kinds = past n n 4 h _ lh (omega arith) (past 0 n n d _ ld (omega arith) (first n k _ lk)) ∙ ek;
+          sizes = past (5 * n) n 4 h _ lh (omega arith) (past (4 * n) n n d _ ld (omega arith) (past (3 * n) n n k _ lk (omega arith) (past (2 * n) n n l _ ll (omega arith) (past n n n o _ lo (omega arith) (past 0 n n p _ lp (omega arith) (first n z _ lz)))))) ∙ ez;
+          groups = past (8 * n) (3 * n) 4 h _ lh (omega arith) (past (7 * n) (3 * n) n d _ ld (omega arith) (past (6 * n) (3 * n) n k _ lk (omega arith) (past (5 * n) (3 * n) n l _ ll (omega arith) (past (4 * n) (3 * n) n o _ lo (omega arith) (past (3 * n) (3 * n) n p _ lp (omega arith) (past (2 * n) (3 * n) n z _ lz (omega arith) (past 0 (3 * n) (2 * n) e _ le (omega arith) (first (3 * n) g _ lg)))))))) ∙ eg;
+        };
+        paths = record {
+          places = past (2 * n) n 4 h _ lh (omega arith) (past n n n d _ ld (omega arith) (past 0 n n k _ lk (omega arith) (first n l _ ll))) ∙ el;
+          rungs = past (6 * n) (2 * n) 4 h _ lh (omega arith) (past (5 * n) (2 * n) n d _ ld (omega arith) (past (4 * n) (2 * n) n k _ lk (omega arith) (past (3 * n) (2 * n) n l _ ll (omega arith) (past (2 * n) (2 * n) n o _ lo (omega arith) (past n (2 * n) n p _ lp (omega arith) (past 0 (2 * n) n z _ lz (omega arith) (first (2 * n) e _ le))))))) ∙ ee;
+        };
+        depths = past 0 n 4 h _ lh (omega arith) (first n d _ ld) ∙ ed;
+        orders = past (3 * n) n 4 h _ lh (omega arith) (past (2 * n) n n d _ ld (omega arith) (past n n n k _ lk (omega arith) (past 0 n n l _ ll (omega arith) (first n o _ lo)))) ∙ eo;
+        pres = past (4 * n) n 4 h _ lh (omega arith) (past (3 * n) n n d _ ld (omega arith) (past (2 * n) n n k _ lk (omega arith) (past n n n l _ ll (omega arith) (past 0 n n o _ lo (omega arith) (first n p _ lp))))) ∙ ep;
+      }
 
   module _ {t : List ℕ} (s : Sectioned ps t) (long : length t ≡ table_words n) where
     -- the whole, once JUMPS and the header stand

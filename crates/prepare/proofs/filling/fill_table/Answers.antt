@@ -2,7 +2,6 @@
 use mathlib.Core.Path.{◌≡◌, ap, ◌∙◌}
 use lib.ListN.{length, take}
 use Rattle.base.specs.Lists.{view}
-use Rattle.base.specs.Limits.{table_words}
 use Rattle.prepare.specs.Arrays.{order_of, depths_of}
 use Rattle.prepare.proofs.Preorder.{judged-none}
 use Rattle.prepare.proofs.records.Rows.{finished}
@@ -28,7 +27,5 @@ invariant_of-tree c =
 
 pub returns : goal.returns
 returns c =
-    let counts = c.family_sections-counts.ensures.counts in
-    let wide : length c.order_sections.new.table ≡ table_words (length c.args.parents.now)
-    = c.order_sections.auto.table ∙ c.path_sections-paths.auto.table ∙ c.family_sections-counts.auto.table ∙ c.requires.1 in
-    finished c.requires.0.one c.order_sections.ensures wide _ _ _ _ _ counts.1 counts.0 c.path_sections-paths.ensures.paths c.jump_section.ensures c.header_cells.ensures
+    let made = c.sections-counts.ensures in
+    finished c.requires.0.one made.laid (c.sections-counts.auto.table ∙ c.requires.1) _ _ _ _ _ made.jumps made.groups made.paths c.jump_section.ensures c.header_cells.ensures

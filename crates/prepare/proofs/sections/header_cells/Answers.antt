@@ -6,5 +6,5 @@ use Rattle.prepare.proofs.sections.header_cells.Goals as goal
 
 pub returns : goal.returns
 returns c =
-    let rest = c.args.counts.jumps ∷ c.args.counts.groups ∷ c.args.paths ∷ [] in
+    let rest = c.args.counts.jumps ∷ c.args.counts.groups ∷ c.args.counts.paths ∷ [] in
     lent_back 0 4 c.args.table.now _ _ (c.copy_from_slice.ensures.after ∙ ap (λ n. n ∷ rest) c.header_of.ensures) refl
