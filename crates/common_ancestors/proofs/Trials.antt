@@ -13,14 +13,10 @@ use Rattle.base.specs.Lists.{has}
 use Rattle.base.specs.Numbers.{Outcome, accepted}
 use Rattle.tree.specs.Parents.{up, climb}
 use Rattle.tree.specs.Level.{Ancestor}
-use Rattle.tree.specs.Questions.{ancestry_of}
+use Rattle.tree.specs.Questions.{ancestry_of, climb_of}
 use Rattle.tree.proofs.Branches.{ancestry-iff}
 use Rattle.tree.proofs.Meanings.{climb-iff}
-use Rattle.answers.specs.Answers.{answer_to, answer_words}
-use Rattle.answers.specs.Steps.{climbing}
 use Rattle.climbs.proofs.TableWords.{small, tree}
-use Rattle.climbs.proofs.Questions.{climb-right}
-use Rattle.query.proofs.Ratings.{first_two, outcome-words}
 use Rattle.common_ancestors.specs.Parts.{Of, Tells}
 
 module _ (ps t : List ℕ) (n : ℕ) (of : Of ps t n) where
@@ -39,7 +35,6 @@ module _ (ps t : List ℕ) (n : ℕ) (of : Of ps t n) where
         iff : (ancestry_of ps w b ≡ accepted 1) ↔ Ancestor ps w b
         iff = ancestry-iff ps (small ps t of.prepared) (tree ps t of.prepared) w b (omega (arith, of.count)) (omega (arith, of.count))
 
-  -- a lookup's words have the entry so many climbs above
-  pub climb_reaches : (a k x : ℕ) (words : List ℕ) → words ≡ answer_words (answer_to t (climbing (length t) a k)) → up ps k a ≡ some x → first_two words ≡ accepted x
-  unfolding answer_to
-  climb_reaches a k x words e r = outcome-words _ words e ∙ climb-right ps t of.prepared a k ∙ (climb-iff ps a k x).1 r
+  -- a lookup finds the entry so many climbs above
+  pub climb_reaches : (a k x : ℕ) (o : Outcome) → o ≡ climb_of ps a k → up ps k a ≡ some x → o ≡ accepted x
+  climb_reaches a k x o e r = e ∙ (climb-iff ps a k x).1 r

@@ -6,11 +6,10 @@ ghost use Rattle.tree.specs.Parents.{up};
 ghost use Rattle.answers.specs.Reading.{word_at};
 ghost use Rattle.common_ancestors.specs.Parts.{Of, Tells, Tried};
 
-use answers::ANSWER_WORDS;
 use base::Node;
 use base::limits::{HEADER_CELLS, ORDER};
 use base::numbers::ACCEPTED;
-use query::{Table, ancestry, climb_words};
+use query::{Table, ancestry, climb};
 
 // An entry of a climb, and whether it is at or above another.
 #[derive(Clone, Copy)]
@@ -50,10 +49,9 @@ pub(crate) fn tried(table: Table, a: Node, b: Node, k: u32) -> Option<Trial>
     ensures entry { IfSome result (λ r. r.entry.0 < table.entry.n) }
     ensures right { (ps : List ℕ) → Of ps table.entry.words.now table.entry.n → b.0 < table.entry.n → (x : ℕ) → up ps k a.0 ≡ some x → Tried ps x b.0 result }
 {
-    let mut words: [u32; ANSWER_WORDS] = [0; ANSWER_WORDS];
-    climb_words(table.words, a, k, &mut words);
-    let entry = Node(words[1]);
-    if words[0] != ACCEPTED || table.n <= entry.0 {
+    let found = climb(table.words, a, k);
+    let entry = Node(found.word);
+    if found.number != ACCEPTED || table.n <= entry.0 {
         return None;
     }
     Some(Trial {
