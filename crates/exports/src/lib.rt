@@ -1,5 +1,5 @@
-// The C interface: measures, preparing, the five questions, the nearest common ancestor and the distance, the premium by a list of rates and by a sheet with bands. A slice is
-// a pointer and a length. An answer is written to an array of the caller's: preparing's to two words, a check's to three, a question's to eighteen, with the money beside it.
+// The C interface: measures, preparing, the five questions, the nearest common ancestor and the distance, the premium by a list of rates and by a sheet with bands. Each question has a C name and a function of
+// its own. A slice is a pointer and a length. An answer is written to an array of the caller's: preparing's to two words, a check's to three, a question's to eighteen, with the money beside it.
 #![tactic(auto)]
 
 ghost use Rattle.std.specs.Prelude.{◌≡◌, length};

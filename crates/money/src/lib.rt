@@ -12,7 +12,8 @@ use base::numbers::{ACCEPTED, BAD_RATE, BAD_SUM};
 use base::{Cents, Sum};
 pub use signs::size;
 
-// The number of an answer, the class or what the refusal names, and the premium.
+// The number of an answer, the class or what the refusal names, and the premium. The number is no `Refusal`: a price goes into an answer's words as it stands (`answer_words`), and a lookup's
+// refusal comes in them.
 #[derive(Clone, Copy)]
 pub struct Price {
     pub number: u32,

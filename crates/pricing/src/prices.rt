@@ -12,7 +12,8 @@ use base::{Cents, Node, Sum};
 use money::{priced, size};
 use sheets::{SHEET_WORDS, check_into, find};
 
-// The number of an answer, the class or what the refusal names, the amount that 14 and 15 name besides, and the premium.
+// The number of an answer, the class or what the refusal names, the amount that 14 and 15 name besides, and the premium. The number is no `Refusal`, as that of `money::Price` is none: it goes
+// into an answer's words as it stands.
 #[derive(Clone, Copy)]
 pub struct SheetPrice {
     pub number: u32,

@@ -47,7 +47,7 @@ fn premium_from(
     }
 }
 
-// The same by the text of a sheet.
+// The same by the text of a sheet. One function that takes the question would have to say by a closure's clauses what `premium` and `price` say by theirs.
 fn price_from(
     parents: &[u32],
     text: &[u8],

@@ -51,7 +51,8 @@ pub(crate) fn is_covered(d: u32, depth: u32) -> bool
     depth <= d
 }
 
-// Entries are passed over by eights, as long as none of the eight is a class: most are not, and eight are compared at once.
+// Entries are passed over by eights, as long as none of the eight is a class: most are not, and eight are compared at once. The place goes on by eights, and the entries behind it are left to
+// `next_class`: chunks would hide it.
 fn skip_eights(depths: &[u32], d: u32, from: usize) -> usize
     requires { from ≤ length depths.now }
     ensures { NoClass depths.now d from result }
