@@ -1,4 +1,4 @@
-// The parts of keys and words, as `specs/Keys` defines them.
+// The parts of keys and words, as `specs/Keys` defines them. Keys and words are two arrays, since only the keys are sorted: a word stays at its line's place.
 ghost use Rattle.std.specs.Prelude.{◌≡◌, List, [], ◌∷◌, ◌++◌, ◌+◌, ◌≤◌, ◌<◌, length};
 ghost use Rattle.base.specs.Limits.{most_entries};
 ghost use Rattle.base.specs.Amounts.{most_lines, most_sum, most_rate};
