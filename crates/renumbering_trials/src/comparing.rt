@@ -1,7 +1,5 @@
 // Two answers to one question, by two offices' tables.
-ghost use Rattle.std.specs.Prelude.{◌≤◌};
-
-use answers::{ANSWER_WORDS, Answer};
+use answers::Answer;
 use samples::tally::Tally;
 
 // How many questions were asked, how many answers differ, and of how many questions the cells do, and their count.
@@ -58,15 +56,6 @@ pub(crate) struct Pair {
 }
 
 impl Pair {
-    // Whether some words from a place on differ: the cells stand from 2 on, their count at 17.
-    fn differs(&self, from: usize) -> bool
-        requires { from ≤ 18 }
-    {
-        let a: [u32; ANSWER_WORDS] = self.first.into();
-        let b: [u32; ANSWER_WORDS] = self.second.into();
-        &a[from..] != &b[from..]
-    }
-
     // At most so many cells each.
     pub(crate) fn is_few(&self, most: u32) -> bool {
         let a = self.first.cells;
@@ -85,10 +74,13 @@ impl Pair {
 
     // The question, where its answers are the same or not.
     pub(crate) fn counted(&self, same: bool) -> Count {
+        let a = self.first.cells;
+        let b = self.second.cells;
+        let counts = a.count != b.count;
         Count {
             tally: Tally::of(same),
-            cells: usize::from(self.differs(2)),
-            counts: usize::from(self.differs(17)),
+            cells: usize::from(counts || a.at != b.at),
+            counts: usize::from(counts),
         }
     }
 }
