@@ -9,7 +9,7 @@ use crate::seeds::{next, pick};
 
 pub const LINES: usize = 16;
 
-// The kinds come first, then a line for each fault, then lengths that are too short, then all small lists.
+// The kinds come first, then a line for each fault, then lengths that are too short, then all small lists. Lines stay numbers, as `count_of` and `Lengths` name them.
 pub const KINDS: usize = 7;
 
 const EMPTY: usize = 11;

@@ -4,7 +4,7 @@ ghost use Rattle.samples.specs.Climbing.{word_above, ToTop};
 
 use crate::words::{TOP, get};
 
-// The climbs from v to the top, or n where v never meets it: `ToTop` has that number in place of an Option.
+// The climbs from v to the top, or n where v never meets it: `ToTop` names n beside the list, and has it in place of an Option.
 #[tactic(auto, unfolding(crate::specs::Climbing::word_above))]
 pub fn climbs(parents: &[u32], n: usize, v: usize) -> usize
     ensures { ToTop parents.now n v result }

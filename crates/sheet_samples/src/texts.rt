@@ -101,7 +101,7 @@ pub fn make_text(kind: usize, text: &mut [u8], classes: Classes, seed: usize) ->
     change(kind, text, count, next(seed))
 }
 
-// The text of m lines as they are, in an order that the seed gives. Answers how many bytes it has.
+// The text of m lines as they are, in an order that the seed gives; the clause names m beside the words. Answers how many bytes it has.
 pub fn write_lines(text: &mut [u8], lines: &[u32], m: usize, seed: usize) -> usize
     ensures { m ≡ 0 → result ≡ 0 }
 {

@@ -69,7 +69,7 @@ fn digits(x: usize) -> usize {
     count
 }
 
-// A byte behind so many; each of these answers how many bytes there are then.
+// A byte behind so many; each of these answers how many bytes there are then, since no text can grow without a heap.
 pub(crate) fn byte(text: &mut [u8], at: usize, b: u8) -> usize {
     if at < text.len() {
         text[at] = b;
