@@ -1,5 +1,5 @@
 // The kinds of sheets, in the order in which the program prints them.
-ghost use Rattle.std.specs.Prelude.{◌≡◌, ◌↔◌};
+ghost use Rattle.std.specs.Prelude.{◌≡◌, ◌≢◌, ◌↔◌};
 ghost use Rattle.sheet_samples.specs.declared.kinds.Kind.TheVariants.{Empty, EmptyBelow, OtherLevel, Broken};
 
 pub const KINDS: usize = 34;
@@ -51,6 +51,20 @@ impl Kind {
         ensures broken { (result ≡ Broken) ↔ (line ≡ 28) }
     {
         match line {
+            25 => Kind::Empty,
+            26 => Kind::EmptyBelow,
+            27 => Kind::OtherLevel,
+            28 => Kind::Broken,
+            _ if line < 14 => Kind::of_lines(line),
+            _ => Kind::of_text(line),
+        }
+    }
+
+    // The kinds of which the lines are good or spoilt.
+    fn of_lines(line: usize) -> Kind
+        ensures { (result ≢ Empty) × (result ≢ EmptyBelow) × (result ≢ OtherLevel) × (result ≢ Broken) }
+    {
+        match line {
             0 => Kind::Good,
             1 => Kind::TenDigits,
             2 => Kind::Missing,
@@ -64,7 +78,15 @@ impl Kind {
             10 => Kind::Depth,
             11 => Kind::Above,
             12 => Kind::HighTo,
-            13 => Kind::HighRate,
+            _ => Kind::HighRate,
+        }
+    }
+
+    // The kinds of which the text is spoilt, and those about the most lines.
+    fn of_text(line: usize) -> Kind
+        ensures { (result ≢ Empty) × (result ≢ EmptyBelow) × (result ≢ OtherLevel) × (result ≢ Broken) }
+    {
+        match line {
             14 => Kind::ElevenDigits,
             15 => Kind::NoDigits,
             16 => Kind::OverWord,
@@ -76,10 +98,6 @@ impl Kind {
             22 => Kind::NoFeed,
             23 => Kind::Cut,
             24 => Kind::Changed,
-            25 => Kind::Empty,
-            26 => Kind::EmptyBelow,
-            27 => Kind::OtherLevel,
-            28 => Kind::Broken,
             29 => Kind::Full,
             30 => Kind::FullFault,
             31 => Kind::Overfull,
