@@ -2,7 +2,7 @@
 use crate::asking::{Offices, SUMS, sum_at};
 use crate::comparing::{Count, Pair, total};
 use crate::numbering::renumber_lines;
-use base::{Node, Sum, reply_words};
+use base::{Node, Refusal, Sum};
 use plain_sheets::classes::Classes;
 use plain_sheets::judging;
 use plain_sheets::line_words::ROOM;
@@ -33,8 +33,10 @@ fn rewrite(
 }
 
 // One sheet is accepted just where the other is, and neither has a bad line.
-fn alike(first: u32, second: u32) -> bool {
-    first != 13 && second != 13 && (first == 0) == (second == 0)
+fn alike(first: Result<u32, Refusal>, second: Result<u32, Refusal>) -> bool {
+    !matches!(first, Err(Refusal::BadLine(_)))
+        && !matches!(second, Err(Refusal::BadLine(_)))
+        && first.is_ok() == second.is_ok()
 }
 
 // Two offices with sheets for a level.
@@ -78,10 +80,10 @@ impl<'a> Sheets<'a> {
     fn tried(&self, seed: usize) -> Count {
         let offices = self.offices;
         let depth = narrow(self.level);
-        let first = reply_words(check(offices.table, self.text, depth));
-        let second = reply_words(check(offices.other_table, self.other_text, depth));
-        let accepted = Count::without_cells(alike(first[0], second[0]));
-        if first[0] != 0 {
+        let first = check(offices.table, self.text, depth);
+        let second = check(offices.other_table, self.other_text, depth);
+        let accepted = Count::without_cells(alike(first, second));
+        if first.is_err() {
             return accepted;
         }
         accepted.plus(self.all_prices(seed))

@@ -17,7 +17,7 @@ use crate::comparing::{Count, total};
 use crate::numbering::{lay_numbers, renumber_list, renumber_rates};
 use crate::printed::say;
 use crate::trees::{Rated, lay_rates};
-use base::reply_words;
+use base::Refusal;
 use plain_sheets::classes::Classes;
 use samples::cases::{ANY, GROWN, KINDS, case_at, count_at};
 use samples::seeds::next;
@@ -40,20 +40,26 @@ const OF_KIND: usize = 212;
 
 const OF_SHEETS: usize = 80;
 
-// Prepares the table of a list. Answers preparing's number.
-fn lay(parents: &[u32], table: &mut [u32]) -> u32 {
+// Prepares the table of a list.
+fn lay(parents: &[u32], table: &mut [u32]) -> Result<u32, Refusal> {
     let mut space = [0u32; 3075];
-    let reply = reply_words(prepare::prepare(parents, table, &mut space));
-    reply[0]
+    prepare::prepare(parents, table, &mut space)
 }
 
-// The table of a list that is renumbered. Answers preparing's number.
-fn lay_other(parents: &[u32], numbers: &[u32], table: &mut [u32]) -> u32
+// The table of a list that is renumbered.
+fn lay_other(parents: &[u32], numbers: &[u32], table: &mut [u32]) -> Result<u32, Refusal>
     requires { length parents.now ≤ 512 }
 {
     let mut words = [0u32; 512];
     renumber_list(numbers, parents, &mut words);
     lay(&words[..parents.len()], table)
+}
+
+fn number_of(reply: Result<u32, Refusal>) -> u32 {
+    match reply {
+        Ok(_) => 0,
+        Err(refusal) => refusal.number(),
+    }
 }
 
 // The k-th list of a line: preparing gives both the same number.
@@ -66,7 +72,8 @@ fn try_list(line: usize, k: usize) -> Count {
     let numbers = &mut all_numbers[..case.n];
     lay_numbers(next(k), numbers);
     let first = lay(parents, &mut table);
-    Count::without_cells(first == lay_other(parents, numbers, &mut table))
+    let second = lay_other(parents, numbers, &mut table);
+    Count::without_cells(number_of(first) == number_of(second))
 }
 
 // Two offices' tables of a tree, of which both lists are accepted, and what is asked at both.
@@ -87,7 +94,7 @@ fn at_both<F: Fn(Offices) -> Count>(parents: &[u32], seed: usize, ask: F) -> Cou
         numbers,
         parents,
     };
-    Count::without_cells(first == 0 && second == 0).plus(ask(offices))
+    Count::without_cells(first.is_ok() && second.is_ok()).plus(ask(offices))
 }
 
 // The premiums of a tree, by lists of rates.
