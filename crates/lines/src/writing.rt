@@ -41,7 +41,7 @@ pub fn header_row() -> Text
     text
 }
 
-// A question's row: entry, depth, refusal, class or `-`, count of cells. The refusal is a number, for every number, as in `query::Answer`.
+// A question's row: entry, depth, refusal, class or `-`, count of cells. The refusal is a number, for every number, as in `answers::Answer`.
 pub fn reply_row(question: Question, number: u32, word: u32, cells: u32) -> Text
     ensures { result ≡ reply_row question.entry.0 question.depth number word cells }
 {

@@ -5,16 +5,9 @@ ghost use Rattle.samples.specs.Refusals.{number_of};
 use crate::bands::Bands;
 use crate::classes::Classes;
 use crate::reading::read;
-use samples::amounts::{MOST_SUM, cents, product};
+use samples::amounts::{Due, MOST_SUM, cents, product};
 use samples::climbing::{above, climbs};
 use samples::refusals::Refusal;
-
-// A class, and the size of the cents.
-#[derive(Clone, Copy)]
-pub struct Due {
-    pub class: usize,
-    pub cents: usize,
-}
 
 // The first fault of the classes in increasing number.
 fn judge(bands: Bands, classes: Classes) -> Result<(), Refusal> {

@@ -2,7 +2,7 @@
 use answers::Answer;
 use base::{Node, Sum};
 use plain_steps::Walk;
-use samples::amounts::{MOST_RATE, MOST_SUM, cents, product, signed};
+use samples::amounts::{Due, MOST_RATE, MOST_SUM, cents, product, signed};
 use samples::refusals::{Refusal, numbers};
 use samples::tally::Tally;
 use samples::words::{narrow, wide};
@@ -18,13 +18,6 @@ pub(crate) struct Trial<'a> {
 
 // What a rating lookup is to answer.
 pub(crate) type Looked = Result<usize, Refusal>;
-
-// What a premium question is to answer: a class, and the size of the cents.
-#[derive(Clone, Copy)]
-struct Due {
-    class: usize,
-    cents: usize,
-}
 
 // The lookup's refusals first, then the rate's, then the sum's.
 fn wanted(rates: &[u32], looked: Looked, size: usize) -> Result<Due, Refusal> {

@@ -17,7 +17,7 @@ pub struct Table<'a> {
     ghost sized: { Sized words.now n },
 }
 
-// A depth asked in a table: that of an entry.
+// A depth asked in a table, less than its number of entries.
 #[derive(Clone, Copy)]
 pub struct Asked<'a> {
     pub table: Table<'a>,
@@ -25,7 +25,7 @@ pub struct Asked<'a> {
     ghost within: { d < table.n },
 }
 
-// An entry v of a table, with its depth.
+// An entry v of a table, with the word of its DEPTH, less than the number of entries.
 #[derive(Clone, Copy)]
 pub struct Entry<'a> {
     pub table: Table<'a>,

@@ -16,5 +16,5 @@ fn name(rt: &impl Print, line: usize) -> io::Result<()> {
 
 pub(crate) fn say(rt: &impl Print, line: usize, tally: Tally) -> io::Result<()> {
     name(rt, line)?;
-    println!(rt; "{},{}", tally.asked, tally.differences)
+    println!(rt; "{tally}")
 }

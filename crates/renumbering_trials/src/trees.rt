@@ -3,6 +3,7 @@ use crate::asking::{Offices, SUMS, sum_at};
 use crate::comparing::{Count, Pair, total};
 use base::{Node, Sum};
 use premiums::premium;
+use samples::amounts::{MOST_RATE, drawn_rate};
 use samples::seeds::{next, pick};
 use samples::words::{narrow, put};
 
@@ -73,21 +74,11 @@ impl<'a> Rated<'a> {
     }
 }
 
-// A rate: at the limits and over them, or any.
-fn rate(seed: usize) -> usize {
-    match pick(seed, 8) {
-        0 => 0,
-        1 => 1000000,
-        2 => 1000001,
-        _ => pick(next(seed), 1000001),
-    }
-}
-
 // Lays the rates of entries.
 pub(crate) fn lay_rates(seed: usize, rates: &mut [u32]) {
     let mut s = seed;
     for v in 0..rates.len() {
         s = next(s);
-        put(rates, v, rate(s));
+        put(rates, v, drawn_rate(s, MOST_RATE + 1));
     }
 }

@@ -1,5 +1,5 @@
 // Sums by sign and size, and the cents of a premium by plain arithmetic.
-ghost use Rattle.std.specs.Prelude.{◌≡◌, ◌<◌};
+ghost use Rattle.std.specs.Prelude.{◌≡◌, ◌<◌, ◌≤◌, max};
 ghost use Rattle.samples.specs.Amounts.{signed_of, parts_of, cents_of};
 
 use crate::seeds::{next, pick};
@@ -39,6 +39,25 @@ pub fn cents(parts: usize) -> usize
         return 0;
     }
     (2 * parts + 10000) / 20000
+}
+
+// A class, and the size of its cents.
+#[derive(Clone, Copy)]
+pub struct Due {
+    pub class: usize,
+    pub cents: usize,
+}
+
+// A rate: at either end, a third one, or any.
+pub fn drawn_rate(seed: usize, third: usize) -> usize
+    ensures { result ≤ max 1000000 third }
+{
+    match pick(seed, 8) {
+        0 => 0,
+        1 => MOST_RATE,
+        2 => third,
+        _ => pick(next(seed), MOST_RATE + 1),
+    }
 }
 
 // A size below the greatest, of any number of digits, from two draws.

@@ -19,7 +19,7 @@ fn behind(text: &[u8], start: usize, commas: usize) -> usize
     text.len()
 }
 
-// The k-th field, from 0, with its comma.
+// The k-th field, from 0, with its comma. The programs' names are such fields, and no array of texts, since docs/DEMANDS.md names this function.
 pub fn field(text: &[u8], k: usize) -> &[u8]
     ensures { result.now ≡ to_comma (behind_commas k text.now) }
 {

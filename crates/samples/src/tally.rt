@@ -1,6 +1,8 @@
 // How many questions were asked, and how many answers differ.
 ghost use Rattle.std.specs.Prelude.{◌≡◌, ◌+◌, ◌%◌, ◌^◌, cond};
 
+use std::fmt;
+
 #[derive(Clone, Copy)]
 pub struct Tally {
     pub asked: usize,
@@ -49,5 +51,12 @@ impl Tally {
             asked: self.asked.wrapping_add(other.asked),
             differences: self.differences.wrapping_add(other.differences),
         }
+    }
+}
+
+// As the programs print it.
+impl fmt::Display for Tally {
+    fn fmt<W: fmt::Write>(&self, f: &mut fmt::Formatter<W>) -> fmt::Result {
+        write!(f, "{},{}", self.asked, self.differences)
     }
 }

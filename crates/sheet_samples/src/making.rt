@@ -1,8 +1,11 @@
 // Sheets without a fault, from a seed: the amounts of each class are split into bands.
 use crate::laying::Lines;
 use plain_sheets::classes::Classes;
-use samples::amounts::{MOST_SUM, drawn};
+use samples::amounts::{MOST_SUM, drawn, drawn_rate};
 use samples::seeds::{next, pick};
+
+// A rate at which every odd sum leaves half a cent.
+const HALVES: usize = 5000;
 
 // How many amounts a band has behind its first: none, a few, or so many that a class with so many bands has all its amounts in a few of them.
 fn width(bands: usize, seed: usize) -> usize {
@@ -11,16 +14,6 @@ fn width(bands: usize, seed: usize) -> usize {
         1 => pick(next(seed), 100),
         _ if bands < 9 => drawn(next(seed)) / 4,
         _ => drawn(next(seed)) / 2048,
-    }
-}
-
-// A rate: at either end, one at which every odd sum leaves half a cent, or any.
-fn rate(seed: usize) -> usize {
-    match pick(seed, 8) {
-        0 => 0,
-        1 => 1000000,
-        2 => 5000,
-        _ => pick(next(seed), 1000001),
     }
 }
 
@@ -49,7 +42,7 @@ impl Lines {
         for i in 0..bands {
             s = next(s.wrapping_add(i));
             let to = end(from, bands - i - 1, bands, next(s));
-            self.push(class, from, to, rate(s));
+            self.push(class, from, to, drawn_rate(s, HALVES));
             from = to.wrapping_add(1);
         }
     }

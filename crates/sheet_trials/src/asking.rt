@@ -1,10 +1,9 @@
 // The check of one sheet and one question with it, held to what they are to answer.
 use answers::Answer;
 use base::{Node, Sum, reply_words};
-use plain_sheets::judging::Due;
 use plain_steps::Walk;
 use pricing::BandQuote;
-use samples::amounts::signed;
+use samples::amounts::{Due, signed};
 use samples::refusals::{Refusal, numbers};
 use samples::tally::Tally;
 use samples::words::{narrow, wide};

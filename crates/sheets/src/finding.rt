@@ -109,8 +109,8 @@ fn range_of(key: u64, word: u64, class: Node, amount: u64) -> Option<Range>
     })
 }
 
-// How many keys are below x, where they are in increasing order and each below the top bit. What is below x is told by the top bit of a difference, and not by a
-// branch, as the library's `partition_point` does: halving is then three times as fast.
+// How many keys are below x, where they are in increasing order and each below the top bit. What is below x is told by the top bit of a difference: by a branch, as
+// the library's `partition_point` tells it, halving takes three times as long.
 fn below(keys: &[u64], x: u64) -> usize
     requires { x ≤ top_bit }
     ensures { (result ≤ length keys.now) × (Ascending keys.now → Low keys.now → Parted keys.now x result) }
