@@ -113,7 +113,7 @@ def places(sources):
         for name, params, body in functions(text):
             listed = parameters(params)
             for p in listed:
-                if re.fullmatch(r"(kind|question|fault|line|form|number|list|style|part): (usize|u32)", p):
+                if re.fullmatch(r"(kind|question|fault|form|number|list|part): (usize|u32)", p):
                     yield 1, "parameter that is a number for a kind or a refusal", f"{f} {name}({p})"
             for m in re.finditer(r"(?m)^ *(while|loop)\b[^\n]*", body):
                 yield 3, "while or loop", f"{f} {name}: {m[0].strip()}"

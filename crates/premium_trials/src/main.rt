@@ -19,7 +19,7 @@ use std::io;
 // The lines of the output: the lists of rates, and the rests of a cent, from 4,998 parts on.
 const LINES: usize = 10;
 
-// The table of a list.
+// The table of a list. So in each of the programs, which share no crate above the engine.
 fn lay(parents: &[u32], table: &mut [u32]) {
     let mut space = [0u32; 3075];
     let _ = prepare::prepare(parents, table, &mut space);

@@ -94,6 +94,7 @@ impl<'a> Book<'a> {
 
     fn long_children(&mut self) {
         for v in 0..self.parents.len() {
+            // In words, where the top mark stands for none.
             let child = self.tallest(v);
             put(&mut self.long, v, child.unwrap_or(TOP));
         }

@@ -51,6 +51,7 @@ impl Asked {
     }
 }
 
+// Each question by the engine's function and by the printed steps' of its name: as two parameters of one function they would stand at every place that asks.
 impl<'a> Trial<'a> {
     pub(crate) fn level(&self, v: usize, d: usize) -> Asked {
         let (v, d) = (narrow(v), narrow(d));

@@ -35,7 +35,7 @@ const STEMS: [usize; 6] = [1, 2, 50, 200, 400, 480];
 // Which lists of a line have their tables damaged: those of 1, 7, 13, 20, 33 and 64 entries, every other one with permuted numbers.
 const TO_DAMAGE: [usize; 6] = [0, 25, 48, 77, 128, 161];
 
-// The table of a list.
+// The table of a list. So in each of the programs, which share no crate above the engine.
 fn lay(parents: &[u32], table: &mut [u32]) {
     let mut space = [0u32; 3075];
     let _ = prepare::prepare(parents, table, &mut space);

@@ -85,6 +85,7 @@ fn rename(parents: &[u32], names: &[u32], renamed: &mut [u32]) {
     }
 }
 
+// As many words as both have: `copy_from_slice` wants one length.
 fn copy(from: &[u32], to: &mut [u32]) {
     for (word, new) in to.iter_mut().zip(from) {
         *word = *new;

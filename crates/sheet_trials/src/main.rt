@@ -29,7 +29,7 @@ use std::io;
 // What stands in the words for a checked sheet before.
 const WORD: u64 = 18446744073709551557;
 
-// The table of a list.
+// The table of a list. So in each of the programs, which share no crate above the engine.
 fn lay(parents: &[u32], table: &mut [u32]) {
     let mut space = [0u32; 3075];
     let _ = prepare::prepare(parents, table, &mut space);

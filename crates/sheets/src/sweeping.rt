@@ -31,7 +31,7 @@ pub(crate) fn lowest_fault(
     Ok(())
 }
 
-// The first entry from a place on that a sheet of level d is to cover, or the number of entries.
+// The first entry from a place on that a sheet of level d is to cover, or the number of entries, where the sweep of the classes ends: `NextClass` says both at once.
 fn next_class(depths: &[u32], d: u32, from: usize) -> usize
     requires { from ≤ length depths.now }
     ensures { NextClass depths.now d from result }
