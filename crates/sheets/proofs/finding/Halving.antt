@@ -7,7 +7,7 @@ use native.Mathlib.Nat.{mul-one, mul-zero, mul-le-mul_left}
 use native.Mathlib.Decide.{dec_lt}
 use lib.ListN.{length, get_or}
 use Rattle.sorting.specs.Orders.{Ascending}
-use Rattle.sheets.specs.Parts.{Low, Parted}
+use Rattle.sheets.specs.Parts.{Low}
 
 -- the answer lies from low to high
 pub record Bracket (l : List ℕ) (x low high : ℕ) : Type 0 where
@@ -17,9 +17,6 @@ pub record Bracket (l : List ℕ) (x low high : ℕ) : Type 0 where
   pub above : (i : ℕ) → high ≤ i → i < length l → x ≤ get_or l i 0
 
 module _ (l : List ℕ) (x : ℕ) (asc : Ascending l) where
-  pub bracket-start : (high : ℕ) → high ≡ length l → Bracket l x 0 high
-  bracket-start high e = record { order = omega arith; within = omega arith; below = λ i a. absurd (omega arith); above = λ i a b. absurd (omega arith) }
-
   module _ (low high mid : ℕ) (b : Bracket l x low high) (h : mid < high) where
     pub bracket-up : get_or l mid 0 < x → (end : ℕ) → end ≡ high → Bracket l x mid end
     bracket-up g end e = record { order = omega arith; within = omega (arith, b.within); below = λ i a. omega (arith, asc i mid (omega arith) (omega (arith, b.within))); above = λ i a. b.above i (omega arith) }
@@ -43,15 +40,5 @@ module _ (l : List ℕ) (x : ℕ) (asc : Ascending l) where
           let w : low + 0 ≡ low = omega arith in
           rw (o, w) (bracket-down low (low + size) (low + size / 2) b (omega arith) (omega arith) (low + (size - size / 2)) (omega arith) (omega arith) (omega arith))
 
-  -- the last one settles it
-  pub bracket-past : (low high : ℕ) → high ≤ low + 1 → low < length l → get_or l low 0 < x → Bracket l x low high → Parted l x (low + 1)
-  bracket-past low high h k g b = record { below = λ i a. omega (arith, asc i low (omega arith) k); above = λ i a. b.above i (omega arith) }
-
-  pub bracket-at : (low high : ℕ) → low < length l → x ≤ get_or l low 0 → Bracket l x low high → Parted l x low
-  bracket-at low high k g b = record { below = b.below; above = λ i a c. omega (arith, asc low i a c) }
-
 pub half-most : (h bit : ℕ) → bit ≤ 1 → h * bit ≤ h
 half-most h bit b = omega (arith, mul-le-mul_left {m = bit} {n = 1} h b, mul-one h)
-
-pub parted-none : (l : List ℕ) (x : ℕ) → length l ≡ 0 → Parted l x 0
-parted-none l x e = record { below = λ i a. absurd (omega arith); above = λ i a b. absurd (omega arith) }

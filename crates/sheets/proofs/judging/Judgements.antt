@@ -41,9 +41,6 @@ module _ (m : ℕ) (words keys spare sorted : List ℕ) (few : m ≤ most_lines)
   front : take m new ≡ sorted
   front = take_at sorted (drop m keys) m (size ∙ old-length)
 
-  pub new-length : m ≡ length (take m new)
-  new-length = sym (ap length front ∙ size ∙ old-length)
-
   pub whole_length : length new ≡ most_lines
   whole_length = omega (arith, length-append sorted (drop m keys), length-drop m keys, size, old-length)
 
