@@ -11,14 +11,14 @@ use base::{Node, Position};
 
 // How many groups there are, and how many jump entries.
 #[derive(Clone, Copy)]
-pub(crate) struct Counts {
+pub(crate) struct KindCounts {
     pub(crate) groups: u32,
     pub(crate) jumps: u32,
 }
 
 // KIND, each word in its entry's cell. A position of size 7 or less starts a group just where the last one has ended. The last position of a size over 7 is a
 // jump entry's just where the next such position lies past its family.
-pub(crate) fn kinds(tree: Preorder, sizes: &[u32], cells: &mut [u32]) -> Counts
+pub(crate) fn kinds(tree: Preorder, sizes: &[u32], cells: &mut [u32]) -> KindCounts
     requires { (sizes.now ≡ sizes_of tree.parents.now) × (length cells.old ≡ length tree.parents.now) }
     ensures counts { (result.groups ≡ length (group_roots group_limit tree.entry.parents.now)) × (result.jumps ≡ length (jump_nodes group_limit tree.entry.parents.now)) }
     ensures laid { cells.new ≡ below (length tree.entry.parents.now) (kind group_limit tree.entry.parents.now) }
@@ -50,5 +50,5 @@ pub(crate) fn kinds(tree: Preorder, sizes: &[u32], cells: &mut [u32]) -> Counts
     if GROUP_LIMIT < sizes[0] {
         jumps += 1;
     }
-    Counts { groups, jumps }
+    KindCounts { groups, jumps }
 }

@@ -50,7 +50,7 @@ pub(crate) fn sections(
     let (size, table) = table.split_at_mut(n);
     let (ladders, table) = table.split_at_mut(LADDER_WORDS * n);
     let (group, _) = table.split_at_mut(GROUP_WORDS * n);
-    let families = kinds(tree, sizes, kind);
+    let numbered = kinds(tree, sizes, kind);
     scatter(tree, sizes, size);
     groups(tree, sizes, group);
     let paths = paths(tree, heights, longs, sizes, ladders);
@@ -59,8 +59,8 @@ pub(crate) fn sections(
     order.copy_from_slice(tree.order);
     positions(tree, pre);
     Counts {
-        groups: families.groups,
-        jumps: families.jumps,
+        groups: numbered.groups,
+        jumps: numbered.jumps,
         paths,
     }
 }

@@ -36,5 +36,5 @@ pub returns-clause-laid : goal.returns-clause-laid
 returns-clause-laid c =
     let ps = c.args.tree.parents.now in
     sectioned ps _ _ _ _ _ _ _ _ _ _ (one (goal.at.returns-clause-laid c).Start) c.split_at_mut-table.ensures.front_len
-    (c.scatter-3.ensures (depth ps) c.args.tree.deep) c.kinds-families.ensures.laid (c.scatter-2.ensures (lad_pos ps) c.paths-paths.ensures.places) (c.copy_from_slice.ensures.after ∙ c.args.tree.orders)
+    (c.scatter-3.ensures (depth ps) c.args.tree.deep) c.kinds-numbered.ensures.laid (c.scatter-2.ensures (lad_pos ps) c.paths-paths.ensures.places) (c.copy_from_slice.ensures.after ∙ c.args.tree.orders)
     c.positions.ensures (c.scatter.ensures (size ps) c.requires.arrays.0) c.paths-paths.ensures.laid c.groups.ensures
