@@ -51,8 +51,8 @@ pub extern "C" fn tantsheko_prepare(
     ensures written { table.new ≡ table_after parents.now table.old space.old }
     ensures left { space.new ≡ space_after parents.now table.old space.old }
 {
-    let r = reply_words(prepare::prepare(parents, table, space));
-    *reply = [r[0], r[1]];
+    let said = reply_words(prepare::prepare(parents, table, space));
+    *reply = said;
 }
 
 // The class of v at depth d.
@@ -79,7 +79,7 @@ pub extern "C" fn tantsheko_rating(table: &[u32], v: u32, d: u32, answer: &mut [
     query::rating_words(table, Node(v), d, answer);
 }
 
-// Whether u is at or above v: 1 or 0.
+// Whether u is at or above v: 1 or 0. C has a name for each question, also where two look alike.
 #[unsafe(no_mangle)]
 pub extern "C" fn tantsheko_ancestry(
     table: &[u32],

@@ -32,8 +32,5 @@ pub(crate) fn link(parents: &[u32], heads: &mut [u32], nexts: &mut [u32]) -> Opt
 fn chain_word(first: Option<Node>) -> u32
     ensures { result ≡ chain first }
 {
-    match first {
-        Some(v) => v.0,
-        None => TOP_MARK,
-    }
+    first.map_or(TOP_MARK, |v| v.0)
 }

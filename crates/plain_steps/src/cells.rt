@@ -3,6 +3,7 @@ ghost use Rattle.std.specs.Prelude.{◌≡◌, ◌+◌, ◌≤◌};
 
 use samples::words::{get, narrow};
 
+// An array with its count: there is no heap.
 #[derive(Clone, Copy)]
 pub(crate) struct Cells {
     pub(crate) count: usize,

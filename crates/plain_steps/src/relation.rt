@@ -63,7 +63,7 @@ pub fn ancestry(table: &[u32], u: u32, v: u32) -> Walk
 {
     let mut cells = Cells::new();
     let found = related(table, u as usize, v as usize, &mut cells);
-    Walk::end(cells, found.map(|yes| if yes { 1 } else { 0 }))
+    Walk::end(cells, found.map(|yes| usize::from(yes)))
 }
 
 // The child of u on the way to v. `strings` has the shapes.

@@ -5,7 +5,7 @@ ghost use Rattle.plain_steps.specs.Same.{Same};
 use crate::cells::Cells;
 use samples::refusals::{Refusal, numbers};
 
-// The number stands for a refusal, or 0 for none, as `Same` compares it with an answer's.
+// The number stands for a refusal, or 0 for none, as `Same` compares it with an answer's. The cells are an array with its count: there is no heap.
 #[derive(Clone, Copy)]
 pub struct Walk {
     pub(crate) number: usize,

@@ -69,6 +69,7 @@ fn rate_at(rates: &[u32], entry: u32) -> Option<u32>
     rates.get(entry as usize).copied()
 }
 
+// The number is no `Refusal`, as in `money::Price`.
 // The price behind a rating lookup of that number and word, whose word has that rate, if the list has one for it.
 fn after_lookup(number: u32, word: u32, rate: Option<u32>, sum: Sum) -> Price
     ensures { (rates : List ℕ) → rate ≡ slice_get rates word → result ≡ price_of rates sum.0 (record { number = number; word = word }) }

@@ -12,7 +12,7 @@ use crate::order::Preorder;
 use crate::places::{HEADER_CELLS, JUMPS, LADDER_WORDS, LADDERS, LADPOS, RECORD_WORDS};
 use base::Node;
 
-// Where the sections start that a record is filled from: DEPTH, LADPOS and LADDERS.
+// Where the sections start that a record is filled from: DEPTH, LADPOS and LADDERS. JUMPS is lent whole and these by their places, as 2026-03 asks.
 #[derive(Clone, Copy)]
 struct Sources {
     depths: usize,

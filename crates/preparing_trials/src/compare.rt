@@ -14,7 +14,8 @@ fn differences(given: &[u32], want: &[u32]) -> usize {
 }
 
 // How much of an answer differs: its number and its name.
-fn unlike(number: u32, name: u32, want: Result<usize, Refusal>) -> usize {
+fn unlike(reply: Result<u32, base::Refusal>, want: Result<usize, Refusal>) -> usize {
+    let [number, name] = reply_words(reply);
     let (other_number, other_name) = numbers(want);
     usize::from(number as usize != other_number) + usize::from(name as usize != other_name)
 }
@@ -66,8 +67,7 @@ pub(crate) fn trial(line: usize, k: usize) -> usize {
     soil(cells);
     soil(words);
     let reply = prepare::prepare(list, &mut cells[..case.table], &mut words[..case.space]);
-    let said = reply_words(reply);
-    unlike(said[0], said[1], answer)
+    unlike(reply, answer)
         .wrapping_add(table_differences(list, answer, cells))
         .wrapping_add(space_differences(case.n, answer, words))
 }

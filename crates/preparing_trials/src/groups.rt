@@ -7,7 +7,7 @@ use crate::words::start;
 use samples::climbing::above;
 use samples::words::{TOP, get, put};
 
-// A list of up to 512 entries.
+// A list of up to 512 entries, in an array with its count: there is no heap.
 #[derive(Clone, Copy)]
 pub(crate) struct Entries {
     at: [u32; 512],

@@ -15,9 +15,8 @@ pub(crate) fn start(section: usize, n: usize) -> usize {
 
 // Zeros in the first n words.
 pub(crate) fn clear(a: &mut [u32], n: usize) {
-    for word in a.iter_mut().take(n) {
-        *word = 0;
-    }
+    let end = n.min(a.len());
+    a[..end].fill(0);
 }
 
 // What words hold before a trial: no two alike, and none a likely answer.

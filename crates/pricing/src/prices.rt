@@ -22,7 +22,7 @@ pub struct SheetPrice {
     pub cents: Cents,
 }
 
-// A refusal's price.
+// A refusal's price; the number is no `Refusal`, as in `money::Price`, here and below.
 fn refused(number: u32, word: u32, amount: u32) -> SheetPrice
     ensures { result ≡ refusing (record { number = number; word = word; amount = amount }) }
 {

@@ -41,7 +41,7 @@ fn lay(parents: &[u32], table: &mut [u32]) {
     let _ = prepare::prepare(parents, table, &mut space);
 }
 
-// Every question on the k-th list of a kind.
+// Every question on the k-th list of a kind: here and below a kind is a line of `samples`, which `count_of` and `Lengths` take as a number.
 fn list(kind: usize, k: usize, strings: &[u32]) -> Tally {
     let mut words = [0u32; 512];
     let mut cells = [0u32; 6983];
@@ -119,6 +119,7 @@ fn all_forks(strings: &[u32]) -> Tally {
     sum
 }
 
+// Each line has a function of its own arguments: a table of closures would hold the same calls.
 fn line_tally(line: usize, strings: &[u32]) -> Tally {
     match line {
         FORKED => all_forks(strings),

@@ -110,7 +110,7 @@ pub fn two_premiums(
     }
 }
 
-// The same by the texts of two sheets.
+// The same by the texts of two sheets: not one generic function with `two_premiums`, since their clauses `same` and `paid` name other definitions.
 pub fn two_prices(
     list1: &[u32],
     text1: &[u8],

@@ -17,7 +17,7 @@ use crate::comparing::{Count, total};
 use crate::numbering::{lay_numbers, renumber_list, renumber_rates};
 use crate::printed::say;
 use crate::trees::{Rated, lay_rates};
-use base::Refusal;
+use base::{Refusal, reply_words};
 use plain_sheets::classes::Classes;
 use samples::cases::{ANY, GROWN, KINDS, case_at, count_at};
 use samples::seeds::next;
@@ -55,13 +55,6 @@ fn lay_other(parents: &[u32], numbers: &[u32], table: &mut [u32]) -> Result<u32,
     lay(&words[..parents.len()], table)
 }
 
-fn number_of(reply: Result<u32, Refusal>) -> u32 {
-    match reply {
-        Ok(_) => 0,
-        Err(refusal) => refusal.number(),
-    }
-}
-
 // The k-th list of a line: preparing gives both the same number.
 fn try_list(line: usize, k: usize) -> Count {
     let mut words = [0u32; 512];
@@ -73,7 +66,7 @@ fn try_list(line: usize, k: usize) -> Count {
     lay_numbers(next(k), numbers);
     let first = lay(parents, &mut table);
     let second = lay_other(parents, numbers, &mut table);
-    Count::without_cells(number_of(first) == number_of(second))
+    Count::without_cells(reply_words(first)[0] == reply_words(second)[0])
 }
 
 // Two offices' tables of a tree, of which both lists are accepted, and what is asked at both.
@@ -177,6 +170,7 @@ fn try_sheets(kind: usize) -> Count {
     })
 }
 
+// Each line has a function of its own arguments: a table of closures would hold the same calls. A kind is a line of `samples` or of `sheet_samples`, whose clauses take it as a number.
 fn try_line(line: usize) -> Count {
     match line {
         0..=3 => try_lists(KINDS + line),

@@ -101,7 +101,7 @@ fn grown_at(k: usize, seed: usize, parents: &mut [u32]) -> usize
     c.n
 }
 
-// The list of a line, before any fault.
+// The list of a line, before any fault. Its arms have other arguments each: a table of closures would hold the same calls.
 fn list_at(line: usize, k: usize, seed: usize, parents: &mut [u32]) -> usize
     ensures { result ≤ 512 }
 {
@@ -113,7 +113,7 @@ fn list_at(line: usize, k: usize, seed: usize, parents: &mut [u32]) -> usize
     }
 }
 
-// W, of a list of up to 512 entries.
+// W, of a list of up to 512 entries: a clause here and below, as `room` and `Lengths` name n.
 fn table_words(n: usize) -> usize
     requires { n ≤ 512 }
     ensures { (result ≡ room n) × (result ≤ 6980) }

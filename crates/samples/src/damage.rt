@@ -68,7 +68,7 @@ fn looped(n: usize, seed: usize, parents: &mut [u32]) {
     put(parents, u, v);
 }
 
-// A list gets a fault.
+// A list gets a fault: a match on an enum, which stands for a number.
 pub(crate) fn damage(fault: Fault, n: usize, seed: usize, parents: &mut [u32]) {
     match fault {
         Fault::Stray => stray(n, seed, parents),

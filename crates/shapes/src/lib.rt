@@ -42,7 +42,7 @@ pub fn row(shape: u32, local: u32) -> [u8; LOCAL_NUMBERS]
 #[derive(Clone, Copy)]
 pub struct Climbs(pub u32);
 
-// The field of one local number of a shape, for every number of either.
+// The field of one local number of a shape, for every number of either. A field of 0 stands for none, as `out_in` and `Packs` promise.
 pub fn climbs_of(shape: u32, local: u32) -> Climbs
     ensures { Packs shape local result.0 }
 {

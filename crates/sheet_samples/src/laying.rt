@@ -1,7 +1,7 @@
 // The lines of a sheet that is made.
 use plain_sheets::line_words::{CLASS, FROM, RATE, ROOM, TO, part, set_part};
 
-// Their words, and how many there are.
+// Their words, and how many there are: there is no heap.
 #[derive(Drop)]
 pub(crate) struct Lines {
     pub(crate) words: [u32; ROOM],

@@ -60,13 +60,8 @@ pub(crate) struct Odd {
 
 // The number of x's digits.
 fn digits(x: usize) -> usize {
-    let mut count: usize = 1;
-    let mut rest = x / 10;
-    while 0 < rest {
-        rest /= 10;
-        count = count.wrapping_add(1);
-    }
-    count
+    x.checked_ilog10()
+        .map_or(1, |power| (power as usize).saturating_add(1))
 }
 
 // A byte behind so many; each of these answers how many bytes there are then, since no text can grow without a heap.

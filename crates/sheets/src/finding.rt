@@ -59,7 +59,7 @@ fn stated_lines(head: u64) -> usize
     ensures { (result ≡ head_lines head) × (result ≤ most_lines) }
 {
     let m = (head % LEVEL_UNIT) as usize;
-    if m < MOST_LINES { m } else { MOST_LINES }
+    m.min(MOST_LINES)
 }
 
 // The last band that begins at the amount or before it, where it holds it.

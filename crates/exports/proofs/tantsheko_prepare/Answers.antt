@@ -6,4 +6,4 @@ use Rattle.exports.proofs.tantsheko_prepare.Goals as goal
 pub returns : goal.returns
 unfolding reply_words
 returns c =
-    record { answer = rw c.reply_words-r.ensures (ap reply_words c.prepare.ensures.answer); written = c.prepare.ensures.written; left = c.prepare.ensures.left }
+    record { answer = rw c.reply_words-said.ensures (ap reply_words c.prepare.ensures.answer); written = c.prepare.ensures.written; left = c.prepare.ensures.left }
