@@ -13,7 +13,7 @@ use crate::kinds::kinds;
 use crate::laying::paths;
 use crate::order::Preorder;
 use crate::places::{GROUP_WORDS, HEADER_CELLS, LADDER_WORDS};
-use crate::spread::{positions, scatter};
+use crate::spread::{copy, positions, scatter};
 use base::limits::header_of;
 
 // The groups, the jump entries and the long paths.
@@ -56,7 +56,7 @@ pub(crate) fn sections(
     let paths = paths(tree, heights, longs, sizes, ladders);
     scatter(tree, sizes, ladpos);
     scatter(tree, tree.depths, depth);
-    order.copy_from_slice(tree.order);
+    copy(tree.order, order);
     positions(tree, pre);
     Counts {
         groups: numbered.groups,

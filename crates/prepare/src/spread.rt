@@ -25,3 +25,13 @@ pub(crate) fn positions(tree: Preorder, cells: &mut [u32])
         cells[*v as usize] = at as u32;
     }
 }
+
+// One array into another of the same length. Not `copy_from_slice`, for which the library for C needs `memmove` from outside.
+pub(crate) fn copy(from: &[u32], to: &mut [u32])
+    requires { length from.now ≡ length to.old }
+    ensures { to.new ≡ from.now }
+{
+    for (at, word) in from.iter().enumerate() {
+        to[at] = *word;
+    }
+}

@@ -1,4 +1,4 @@
--- Words written one after another, at the cells of the entries in preorder. Assumes nothing.
+-- Words written one after another: at the places of an array, and at the cells of the entries in preorder. Assumes nothing.
 use mathlib.Core.Path.{◌≡◌, sym, ap, ◌∙◌}
 use mathlib.Core.List.{List}
 use Prim.Native.Nat.{ℕ, ◌+◌, ◌≤◌, ◌<◌}
@@ -11,6 +11,15 @@ use Rattle.base.proofs.Lists.{below_at, each-length}
 use Rattle.tree.specs.Forest.{position}
 use Rattle.prepare.specs.Arrays.{OneTree, entry_at}
 use Rattle.prepare.proofs.Preorder.{located-at, located-of}
+
+-- the first i words of an array are those of g
+abbrev pub Ran : (ℕ → ℕ) → ℕ → List ℕ → Type 0
+Ran g i cells = (k : ℕ) → k < i → get_or cells k 0 ≡ g k
+
+pub ran-more : (g : ℕ → ℕ) (i : ℕ) (cells : List ℕ) (x : ℕ) → i < length cells → x ≡ g i → Ran g i cells → Ran g (i + 1) (set cells i x)
+ran-more g i cells x h e r =
+    let before : (k : ℕ) → k < i → get_or (set cells i x) k 0 ≡ g k = λ k l. get_or-set_other cells i k x 0 (λ q. omega arith) ∙ r k l in
+    below_more _ i before (get_or-set_same cells i x 0 h ∙ e)
 
 -- the cells of the entries at the first i positions hold the words of g
 pub record Written (ps : List ℕ) (g : ℕ → ℕ) (i : ℕ) (cells : List ℕ) : Type 0 where

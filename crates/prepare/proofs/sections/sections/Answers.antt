@@ -28,13 +28,13 @@ scatter-requires-2 c = (c.paths-paths.auto.places ∙ long (goal.at.scatter-requ
 pub scatter-requires-3 : goal.scatter-requires-3
 scatter-requires-3 c = (array-length (one (goal.at.scatter-requires-3 c).Start) _ _ c.args.tree.deep, c.split_at_mut-depth.ensures.front_len)
 
-pub copy_from_slice-requires : goal.copy_from_slice-requires
-copy_from_slice-requires c =
-    c.split_at_mut-order.ensures.front_len ∙ sym (ap length c.args.tree.orders ∙ order-many (one (goal.at.copy_from_slice-requires c).Start))
+pub copy-requires : goal.copy-requires
+copy-requires c =
+    ap length c.args.tree.orders ∙ order-many (one (goal.at.copy-requires c).Start) ∙ sym c.split_at_mut-order.ensures.front_len
 
 pub returns-clause-laid : goal.returns-clause-laid
 returns-clause-laid c =
     let ps = c.args.tree.parents.now in
     sectioned ps _ _ _ _ _ _ _ _ _ _ (one (goal.at.returns-clause-laid c).Start) c.split_at_mut-table.ensures.front_len
-    (c.scatter-3.ensures (depth ps) c.args.tree.deep) c.kinds-numbered.ensures.laid (c.scatter-2.ensures (lad_pos ps) c.paths-paths.ensures.places) (c.copy_from_slice.ensures.after ∙ c.args.tree.orders)
+    (c.scatter-3.ensures (depth ps) c.args.tree.deep) c.kinds-numbered.ensures.laid (c.scatter-2.ensures (lad_pos ps) c.paths-paths.ensures.places) (c.copy.ensures ∙ c.args.tree.orders)
     c.positions.ensures (c.scatter.ensures (size ps) c.requires.arrays.0) c.paths-paths.ensures.laid c.groups.ensures
