@@ -4,6 +4,7 @@
 
 mod cells;
 mod local;
+mod power;
 mod relation;
 mod steps;
 mod strings;

@@ -1,11 +1,13 @@
 // Local numbers of a group, along the string of its shape: from the root, which is 0, each down meets the next local number.
 ghost use Rattle.std.specs.Prelude.{◌≤◌};
 
+use crate::power::largest;
+
 // The depth in its group of a local number, where the shape has it.
 pub(crate) fn local_depth(string: usize, local: usize) -> Option<usize> {
     let mut depth: usize = 0;
     let mut met: usize = 0;
-    for step in (0..string.max(1).ilog2()).rev() {
+    for step in (0..largest(string).exponent).rev() {
         if met == local {
             return Some(depth);
         }
@@ -26,7 +28,7 @@ pub(crate) fn local_ancestor(string: usize, local: usize, depth: usize) -> usize
     let mut here: usize = 0;
     let mut met: usize = 0;
     let mut last = 0;
-    for step in (0..string.max(1).ilog2()).rev() {
+    for step in (0..largest(string).exponent).rev() {
         if local <= met {
             return last;
         }

@@ -3,6 +3,7 @@ ghost use Rattle.std.specs.Prelude.{◌+◌, ◌<◌, ◌≤◌};
 
 use crate::cells::Cells;
 use crate::local::{local_ancestor, local_depth};
+use crate::power::largest;
 use crate::table::{Table, below};
 use crate::walking::Walk;
 use samples::refusals::Refusal;
@@ -34,9 +35,9 @@ impl<'a> Table<'a> {
             return Err(Refusal::Broken);
         }
         let far = depth - d;
-        let leap = far.ilog2();
-        let w = below(self.read(first + 1 + leap as usize, cells), self.n)?;
-        self.land(w, far - (1 << leap), cells)
+        let leap = largest(far);
+        let w = below(self.read(first + 1 + leap.exponent, cells), self.n)?;
+        self.land(w, far - leap.value, cells)
     }
 
     // Step 3 where the climb ends in the group: ORDER at the group's position plus a local number.

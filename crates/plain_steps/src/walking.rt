@@ -1,5 +1,6 @@
 // A walk at its end: the cells read, in the order read, how many, and the answer's number and word.
 ghost use Rattle.std.specs.Prelude.{◌≡◌, true};
+ghost use Rattle.samples.specs.Refusals.{numbers_of};
 ghost use Rattle.plain_steps.specs.Same.{Same};
 
 use crate::cells::Cells;
@@ -16,7 +17,8 @@ pub struct Walk {
 
 impl Walk {
     pub(crate) fn end(cells: Cells, found: Result<usize, Refusal>) -> Walk
-        ensures { result.count ≡ cells.count }
+        ensures count { result.count ≡ cells.count }
+        ensures told { (result.number, result.word) ≡ numbers_of found }
     {
         let (number, word) = numbers(found);
         let at = cells.at;
