@@ -48,19 +48,20 @@ pub fn look(sound: bool, classes: Classes, v: usize) -> Result<usize, Refusal>
     Ok(above(classes.parents, v, depth.saturating_sub(classes.level)))
 }
 
-// What a question is to answer behind a lookup: the lookup's refusals, the sheet's, and then the sum's.
-pub fn price(
-    looked: Result<usize, Refusal>,
-    checked: Result<usize, Refusal>,
+// What a question is to answer behind a lookup: the lookup's refusals, the sheet's, and then the sum's. The first two are handed on as they are, so they may be of any type that
+// has the third.
+pub fn price<R: Copy + From<Refusal>>(
+    looked: Result<usize, R>,
+    checked: Result<usize, R>,
     lines: &[u32],
     size: usize,
-) -> Result<Due, Refusal>
+) -> Result<Due, R>
     ensures { IfErr looked (λ r. result ≡ Err r) }
 {
     let class = looked?;
     let count = checked?;
     if MOST_SUM < size {
-        return Err(Refusal::BadSum);
+        return Err(R::from(Refusal::BadSum));
     }
     let bands = Bands {
         words: lines,
