@@ -54,14 +54,31 @@ fn space_differences(n: usize, answer: Result<usize, Refusal>, space: &[u32]) ->
     differences(space, want)
 }
 
+// What preparing is lent, with 16 words beyond the longest table and space: one for all trials, since to make it anew for each takes half as long as these.
+#[derive(Drop)]
+pub(crate) struct Loan {
+    parents: [u32; 512],
+    table: [u32; 6999],
+    space: [u32; 3091],
+}
+
+impl Loan {
+    pub(crate) fn new() -> Loan {
+        Loan {
+            parents: [0; 512],
+            table: [0; 6999],
+            space: [0; 3091],
+        }
+    }
+}
+
 // How much differs after the call of a line's k-th case. Table and space are compared for 16 words beyond.
-pub(crate) fn trial(line: usize, k: usize) -> usize {
-    let mut parents = [0u32; 512];
-    let mut table = [0u32; 6999];
-    let mut space = [0u32; 3091];
-    let case = case_at(line, k, &mut parents);
-    let list = &parents[..case.n];
+pub(crate) fn trial(line: usize, k: usize, loan: &mut Loan) -> usize {
+    let case = case_at(line, k, &mut loan.parents);
+    let list = &loan.parents[..case.n];
     let answer = judge(list, case.table, case.space);
+    let table = &mut loan.table[..];
+    let space = &mut loan.space[..];
     let cells = &mut table[..case.table + 16];
     let words = &mut space[..case.space + 16];
     soil(cells);

@@ -48,7 +48,10 @@ impl<'a> Book<'a> {
 
     // Whether v has a child that is not micro.
     fn has_large_child(&self, v: usize) -> bool {
-        (0..self.parents.len()).any(|u| self.parent(u) == Some(v) && !self.is_micro(u))
+        self.parents
+            .iter()
+            .enumerate()
+            .any(|(u, word)| *word as usize == v && !self.is_micro(u))
     }
 
     pub(crate) fn is_jump(&self, v: usize) -> bool {

@@ -41,8 +41,8 @@ impl<'a> Book<'a> {
             return 0;
         };
         let mut sum: usize = 1;
-        for u in 0..v {
-            if self.parent(u) == Some(p) {
+        for (u, word) in self.parents.iter().take(v).enumerate() {
+            if *word as usize == p {
                 sum = sum.wrapping_add(get(&self.size, u));
             }
         }
@@ -82,11 +82,13 @@ impl<'a> Book<'a> {
     fn tallest(&self, v: usize) -> Option<usize> {
         let mut best = None;
         let mut most = 0;
-        for u in 0..self.parents.len() {
-            let height = get(&self.height, u);
-            if self.parent(u) == Some(v) && most < height {
-                most = height;
-                best = Some(u);
+        for (u, word) in self.parents.iter().enumerate() {
+            if *word as usize == v {
+                let height = get(&self.height, u);
+                if most < height {
+                    most = height;
+                    best = Some(u);
+                }
             }
         }
         best
