@@ -57,14 +57,18 @@ module _ (st : State) (b : Lent) where
       go true = refl
       go false = refl
 
-  module _ (room : has_room b ≡ true) (few : st.held ≤ most_bytes) where
-    pub no_phase : phase_fits st.phase st ≡ false → false ≡ fits st b
-    unfolding fits
-    no_phase e = rw (room, le-leb st.held most_bytes few, e)
+  pub held-within : (r : Bool) → r ≡ has_room b → (r && leb st.held most_bytes) ≡ true → st.held ≤ length b.line
+  held-within r is t =
+      let h = both (has_room b) _ (ap (λ x. x && leb st.held most_bytes) (sym is) ∙ t) in
+      omega (arith, (room_of b h.0).line, leb-true st.held most_bytes h.1)
 
-    pub place-fits : phase_fits st.phase st ≡ true → (x : Bool) → x ≡ has (held_bytes st b) line_feed → not x ≡ fits st b
+  module _ (room : has_room b ≡ true) (few : st.held ≤ most_bytes) where
+    pub place-fits : (p x : Bool) → p ≡ phase_fits st.phase st → x ≡ has (held_bytes st b) line_feed → (p && not x) ≡ fits st b
     unfolding fits
-    place-fits p x e = rw (room, le-leb st.held most_bytes few, p, e)
+    place-fits p x q e = rw (room, le-leb st.held most_bytes few, q, e)
+
+    pub no_phase : phase_fits st.phase st ≡ false → false ≡ fits st b
+    no_phase e = place-fits false (has (held_bytes st b) line_feed) (sym e) refl
 
   module _ (f : StateFits st b) where
     has-room : has_room b ≡ true

@@ -17,7 +17,7 @@ use prepare::prepare;
 use query::level;
 
 // The state behind some bytes, and what they printed.
-#[derive(Drop)]
+#[derive(Clone, Copy)]
 pub struct Stepped {
     pub state: State,
     pub text: Text,

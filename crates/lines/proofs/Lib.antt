@@ -12,3 +12,4 @@ pub mod WholeLines
 pub mod LineTexts
 pub mod Runs
 pub mod LongLines
+pub mod Fillings

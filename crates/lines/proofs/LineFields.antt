@@ -5,10 +5,10 @@ use mathlib.Core.Bool.{Bool, true, false, cond}
 use mathlib.Core.Option.{Option, none, some, bind}
 use Prim.Native.Nat.{ℕ, ◌-◌}
 use native.Mathlib.Omega.{arith}
-use lib.ListN.{length, take, drop, length-drop}
+use lib.ListN.{length, get_or, take, drop, length-drop}
 use lib.Seq.{take_all}
 use lib.Dec.{eqb}
-use borrow.Author.Tests.{ne_eqb}
+use borrow.Author.Tests.{eq-eqb, ne_eqb}
 use Rattle.std.specs.Cmp.Lexicographic.{pointwise}
 use Rattle.base.specs.Limits.{top_mark}
 use Rattle.lines.specs.Text.{comma, dash}
@@ -41,7 +41,15 @@ count_none line h = rw (count-is line, head-is 78 line false h)
 pub count-read : (line : List ℕ) → Begins 78 line true → (field : List ℕ) → field ≡ drop 2 line → (o : Option ℕ) → o ≡ number field → o ≡ count_of line
 count-read line h field e o q = rw (q, count-is line, head-is 78 line true h, e)
 
--- `P,parent`
+-- `P,parent`: a field that is a dash alone, or not
+parent-dash : (line : List ℕ) → length line ≡ 3 → get_or line 2 0 ≡ dash → parent_field (drop 2 line) ≡ some top_mark
+unfolding parent_field
+parent-dash [] e q = absurd (omega arith)
+parent-dash (a ∷ []) e q = absurd (omega arith)
+parent-dash (a ∷ b ∷ []) e q = absurd (omega arith)
+parent-dash (a ∷ b ∷ c ∷ []) e q = rw (eq-eqb c dash q)
+parent-dash (a ∷ b ∷ c ∷ d ∷ l) e q = absurd (omega arith)
+
 parent-plain : (field : List ℕ) → (field ≡ dash ∷ [] → ⊥) → parent_field field ≡ number field
 unfolding parent_field number is_number
 parent-plain [] n = refl

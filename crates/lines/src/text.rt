@@ -1,13 +1,14 @@
 // A text by value, of at most as many bytes as a row can have.
 ghost use Rattle.std.specs.Prelude.{◌≡◌, List, [], ◌∷◌, ◌++◌, ℕ, ◌+◌, ◌<◌, ◌≤◌, length};
+ghost use Rattle.base.specs.Lists.{padded};
 ghost use Rattle.lines.specs.Text.{decimal};
-ghost use Rattle.lines.specs.Texts.{said, row_room};
+ghost use Rattle.lines.specs.Texts.{said, row_room, Filled, bytes-back, count-back};
 
 use crate::room::ROW_ROOM;
 use std::marker::Model;
 
 // The first `count` of its bytes, in an array: there is no heap.
-#[derive(Drop)]
+#[derive(Clone, Copy)]
 pub struct Text {
     bytes: [u8; ROW_ROOM],
     count: usize,
@@ -19,7 +20,11 @@ impl Model for Text {
 
     ghost view = { λ t. said t.bytes t.count };
 
-    ghost invariant = { λ t. t.count ≤ row_room };
+    ghost invariant = { λ t. Filled t.bytes t.count };
+
+    ghost inverse = { λ l. record { bytes = padded row_room l; count = length l } };
+
+    ghost inverse_ok = { λ t h i. record { bytes = bytes-back h i; count = count-back h i } };
 }
 
 impl Text {

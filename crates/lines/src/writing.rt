@@ -7,7 +7,7 @@ ghost use Rattle.lines.specs.Texts.{row_room};
 ghost use Rattle.lines.specs.Counter.{bad_line, bad_list, header_row, reply_row};
 
 use crate::reading::Question;
-use crate::text::Text;
+pub use crate::text::Text;
 use base::numbers::ACCEPTED;
 
 // `line,` and the number of a bad line.

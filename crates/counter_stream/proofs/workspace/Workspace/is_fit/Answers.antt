@@ -1,5 +1,5 @@
 -- `Workspace::is_fit` meets its contract. Assumes nothing.
-use Rattle.std.proofs.Common.{sym, ◌∙◌, inl, inr}
+use Rattle.std.proofs.Common.{sym, ◌∙◌, inl, inr, true}
 use Rattle.counter_stream.specs.Loans.{lent_by}
 use Rattle.counter_stream.proofs.LineFeeds.{has-any}
 use Rattle.counter_stream.proofs.Fitness.{no_place, no_phase, place-fits}
@@ -15,7 +15,7 @@ returns-then-not-has_room c =
 
 pub returns-then-phase_fits : goal.returns-then-phase_fits
 returns-then-phase_fits c =
-    place-fits c.args.state (lent_by c.args.self.now) (sym c.has_room.ensures ∙ c.if-not-has_room.false) c.if-state-gt-LINE_ROOM.false (sym c.phase_fits.ensures ∙ c.if-phase_fits.true) _ (c.contains.ensures.value ∙ has-any _)
+    place-fits c.args.state (lent_by c.args.self.now) (sym c.has_room.ensures ∙ c.if-not-has_room.false) c.if-state-gt-LINE_ROOM.false true _ (sym (sym c.phase_fits.ensures ∙ c.if-phase_fits.true)) (c.contains.ensures.value ∙ has-any _)
 
 pub returns-else-phase_fits : goal.returns-else-phase_fits
 returns-else-phase_fits c =
