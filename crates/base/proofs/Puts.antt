@@ -1,14 +1,16 @@
 -- A part of a list replaced by other words: what stands there, before it and behind it. Assumes nothing.
-use mathlib.Core.Path.{◌≡◌, sym, ap, ◌∙◌}
-use mathlib.Core.List.{List, [], ◌++◌, append_assoc, append-nil}
-use Prim.Native.Nat.{ℕ, ◌+◌, ◌-◌, ◌≤◌}
+use mathlib.Core.Path.{◌≡◌, refl, sym, ap, ◌∙◌}
+use mathlib.Core.List.{List, [], ◌++◌, append_assoc, ◌∷◌, append-nil}
+use Prim.Native.Nat.{ℕ, ◌+◌, ◌-◌, ◌≤◌, ◌<◌}
 use native.Mathlib.Omega.{arith}
+use native.Mathlib.Decide.{dec_le}
 use borrow.Rule.Slice.PartMut.{mid_of, put_mid, Post-is, mid_len}
-use lib.ListN.{length, take, drop, length-append, length-take, length-drop, take-append-drop, drop_of_length-le, replicate, length-replicate}
-use lib.Seq.{drop-append-le, drop_at, drop-drop, length-take-le, take_at, take-add, take_all}
+use lib.ListN.{length, take, drop, length-append, length-take, length-drop, take-append-drop, drop_of_length-le, set, get_or, replicate, length-replicate}
+use lib.Seq.{drop-append-le, drop_at, drop-drop, length-take-le, take_at, take-add, take_all, take-nil, take-take, set_split}
 use Rattle.base.specs.Lists.{view, put, padded}
-use Rattle.base.proofs.Views.{view-back, view-other}
+use Rattle.base.proofs.Views.{view-back, view-other, filled_at}
 use mathlib.Core.Logic.{◌⊎◌, ⊎_elim}
+use native.Mathlib.Numerals.{add-one}
 
 -- a part that was lent, as it is lent and as it comes back
 pub lent_view : (a b c : ℕ) (l : List ℕ) → a + c ≡ b → mid_of a (b - a) l ≡ view a c l
@@ -87,9 +89,30 @@ pub view-all : (c : ℕ) (l : List ℕ) → length l ≡ c → view 0 c l ≡ l
 unfolding view
 view-all c l e = take_all c l (omega arith)
 
+-- a part of a part, and so a part of the words that were put
+view-view : (a k b c : ℕ) (l : List ℕ) → b + c ≤ k → view b c (view a k l) ≡ view (a + b) c l
+unfolding view
+view-view a k b c l h =
+    let z : b + (k - b) ≡ k = omega arith in
+    let e : drop b (take k (drop a l)) ≡ take (k - b) (drop b (drop a l)) = go (drop a l) (dec_le b (length (drop a l))) z in
+    ap (take c) e ∙ take-take c (k - b) (drop b (drop a l)) (omega arith) ∙ ap (take c) (drop-drop b a l)
+  where
+    go : (m : List ℕ) → Dec (b ≤ length m) → b + (k - b) ≡ k → drop b (take k m) ≡ take (k - b) (drop b m)
+    go m (yes g) z = ap (λ j. drop b (take j m)) (sym z) ∙ ap (drop b) (take-add b (k - b) m) ∙ drop_at (take b m) _ b (length-take-le b m g)
+    go m (no g) z =
+        drop_of_length-le (take k m) {i = b} (simp length-take (omega arith))
+        ∙ sym (ap (take (k - b)) (drop_of_length-le m {i = b} (omega arith)) ∙ take-nil (k - b))
+
+pub put-inside : (l : List ℕ) (a : ℕ) (x : List ℕ) → a + length x ≤ length l → (b c : ℕ) → b + c ≤ length x → view (a + b) c (put l a x) ≡ view b c x
+put-inside l a x room b c h = sym (view-view a (length x) b c (put l a x) h) ∙ ap (view b c) (put_view l a x room (length x) refl)
+
 -- a part that is lent has the words that stand there
 pub lent : (a b c : ℕ) (l x : List ℕ) → a + c ≡ b → view a c l ≡ x → mid_of a (b - a) l ≡ x
 lent a b c l x e q = lent_view a b c l e ∙ q
+
+-- and what comes back of it is put there
+pub came-back : (a c : ℕ) (l y x : List ℕ) → a + c ≤ length l → length y ≡ length (mid_of a (a + c - a) l) → y ≡ x → put_mid a (a + c - a) l y ≡ put l a x
+came-back a c l y x h n e = lent_back a (a + c) l y x e (omega (arith, ap length e, mid_len a (a + c) l h))
 
 -- a part that is lent and set to one word
 module _ (a b c x : ℕ) (l y : List ℕ) (e : a + c ≡ b) (h : b ≤ length l) (q : y ≡ replicate (length (mid_of a (b - a) l)) x) where
@@ -98,6 +121,11 @@ module _ (a b c x : ℕ) (l y : List ℕ) (e : a + c ≡ b) (h : b ≤ length l)
 
   pub came-filled : put_mid a (b - a) l y ≡ put l a (replicate c x)
   came-filled = lent_back a b l y (replicate c x) filled-all (omega (arith, length-replicate {A = ℕ} c x))
+
+pub put-filled : (a c x : ℕ) (l : List ℕ) → a + c ≤ length l → (v : ℕ) → v < c → get_or (view a c (put l a (replicate c x))) v 0 ≡ x
+put-filled a c x l h v b =
+    let n : length (replicate c x) ≡ c = length-replicate c x in
+    ap (λ w. get_or w v 0) (put_view l a (replicate c x) (omega arith) c n) ∙ filled_at (replicate c x) c x v refl (omega arith)
 
 -- all words from a on, lent and set to 0
 pub wiped : (l y : List ℕ) (a : ℕ) → a ≤ length l → y ≡ replicate (length (mid_of a (length l - a) l)) 0 → put_mid a (length l - a) l y ≡ padded (length l) (take a l)
@@ -113,3 +141,8 @@ Apart a k b c = (b + c ≤ a) ⊎ (a + k ≤ b)
 -- words that stand apart from those that are put stay
 pub stays : (l : List ℕ) (a : ℕ) (x : List ℕ) → a + length x ≤ length l → (b c : ℕ) → Apart a (length x) b c → view b c (put l a x) ≡ view b c l
 stays l a x fits b c o = ⊎_elim (λ h. put-before l a x fits b c h) (λ h. put-behind l a x fits b c h) o
+
+-- one word that is stored is put
+pub set-put : (l : List ℕ) (k x : ℕ) → k < length l → set l k x ≡ put l k (x ∷ [])
+unfolding put
+set-put l k x h = set_split l k x h ∙ ap (λ j. take k l ++ (x ∷ drop j l)) (sym (add-one k))

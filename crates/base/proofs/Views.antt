@@ -5,7 +5,7 @@ use Prim.Native.Nat.{ℕ, suc, ◌+◌, ◌-◌, ◌≤◌, ◌<◌}
 use native.Mathlib.Omega.{arith}
 use native.Mathlib.Numerals.{add-one}
 use lib.ListN.{length, get_or, take, drop, set, replicate, length-replicate, get_or-replicate, length-append, length-set, length-take, length-drop, take-append-drop}
-use lib.Seq.{get_or-take, get_or-drop, drop-set-lt, drop-set-add, take-suc-set, drop-append-le, take-append-le, drop_at, take_at, drop-cons, set-append_seam, get_or-set_same}
+use lib.Seq.{get_or-take, get_or-drop, take-set-le, take-set-lt, drop-set-lt, drop-set-add, take-suc-set, drop-append-le, take-append-le, drop_at, take_at, drop-cons, set-append_seam, get_or-set_same}
 use Rattle.base.specs.Lists.{view}
 
 module _ (a c : ℕ) (l : List ℕ) where
@@ -16,6 +16,21 @@ module _ (a c : ℕ) (l : List ℕ) where
   pub view-at : (v k : ℕ) → v < c → k ≡ a + v → get_or l k 0 ≡ get_or (view a c l) v 0
   unfolding view
   view-at v k h e = rw (e, get_or-take c (drop a l) v 0 h, get_or-drop a l v 0)
+
+  -- a store in the part, before it, and behind it
+  pub view-set : (j k x : ℕ) → j < c → k ≡ a + j → view a c (set l k x) ≡ set (view a c l) j x
+  unfolding view
+  view-set j k x h e = rw (e, drop-set-add a l j x, take-set-lt c (drop a l) j x h)
+
+  pub view-before : (k x : ℕ) → k < a → view a c (set l k x) ≡ view a c l
+  unfolding view
+  view-before k x h = rw (drop-set-lt a l k x h)
+
+  pub view-past : (k x : ℕ) → a + c ≤ k → view a c (set l k x) ≡ view a c l
+  unfolding view
+  view-past k x h =
+      let e : k ≡ a + (k - a) = omega arith in
+      ap (λ q. take c (drop a (set l q x))) e ∙ rw (drop-set-add a l (k - a) x, take-set-le c (drop a l) (k - a) x (omega arith))
 
   -- a store right behind it lengthens it
   pub view-more : (k x : ℕ) → k < length l → k ≡ a + c → view a (c + 1) (set l k x) ≡ view a c l ++ x ∷ []

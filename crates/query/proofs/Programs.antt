@@ -71,9 +71,9 @@ pub listing : (k : ℕ) (cs : Cells) → Held k cs → Listing k cs
 unfolding listed
 listing k cs h = record { list = take k cs.at; long = h.0; is = λ i. record { at = h.2 i; count = (h.1 ∙ sym h.0) i } }
 
-pub listing-held : (xs : List ℕ) → length xs ≤ 15 → Held (length xs) (listed xs)
+pub listing-held : (xs : List ℕ) → Held (length xs) (listed xs)
 unfolding listed padded
-listing-held xs h = let t : take (length xs) (padded 15 xs) ≡ xs = take-append_seam xs _ in (ap length t, refl, rw t refl)
+listing-held xs = let t : take (length xs) (padded 15 xs) ≡ xs = take-append_seam xs _ in (ap length t, refl, rw t refl)
 
 -- with one cell more
 pub pushed-held : (cell : ℕ) (cs : Cells) (k j : ℕ) → Held k cs → k < 15 → j ≡ k + 1 → Held j (pushed cs cell)
@@ -83,4 +83,4 @@ pushed-held cell cs k j h low e =
     let n = length-append l.list (cell ∷ []) in
     let m : length (l.list ++ (cell ∷ [])) ≡ j = omega (arith, l.long) in
     let is : pushed cs cell ≡ listed (l.list ++ (cell ∷ [])) = ap (λ b. pushed b cell) l.is ∙ push-all-listed l.list (cell ∷ []) (omega (arith, l.long)) in
-    rw (is, ← m) (listing-held (l.list ++ (cell ∷ [])) (omega arith))
+    rw (is, ← m) (listing-held (l.list ++ (cell ∷ [])))

@@ -6,7 +6,7 @@ use lib.Seq.{set-append_seam, sets, take-append_seam}
 use Rattle.base.specs.Lists.{each, below, padded}
 use Rattle.base.proofs.Lists.{each-length, below_at}
 use Rattle.base.proofs.Joins.{padded-length, padded-in, padded-past}
-use Rattle.answers.specs.Reading.{Reading, Within, trace}
+use Rattle.answers.specs.Reading.{Reading, trace}
 use Rattle.answers.specs.Answers.{pushed_all, listed, answer_to, answer_from}
 use Rattle.answers.specs.Steps.{from_jump}
 use Rattle.answers.specs.declared.Answer.{Answer}
@@ -25,9 +25,9 @@ part-goes t cs p a all e h =
     rw (e, cells) (sym (from_is t cs p))
 
 -- an answer lists the cells that it has read
-pub answer-held : (t : List ℕ) (p : Reading) (a : Answer) (b : ℕ) → Within b p → b ≤ 15 → a ≡ answer_to t p → Held a.cells.count a.cells
+pub answer-held : (t : List ℕ) (p : Reading) (a : Answer) → a ≡ answer_to t p → Held a.cells.count a.cells
 unfolding answer_to listed
-answer-held t p a b w h e = let f : length (trace t p) ≤ b = few t b p w in rw e (listing-held (trace t p) (omega arith))
+answer-held t p a e = rw e (listing-held (trace t p))
 
 -- step 4's answer
 module _ (t : List ℕ) (n d jump : ℕ) (a : Answer) (e : a ≡ answer_from t (listed []) (from_jump n d jump)) where
@@ -38,7 +38,7 @@ module _ (t : List ℕ) (n d jump : ℕ) (a : Answer) (e : a ≡ answer_from t (
   jump-four = rw jump-answer (few t 4 (from_jump n d jump) (jump-within n d jump))
 
   pub jump-held : Held a.cells.count a.cells
-  jump-held = answer-held t (from_jump n d jump) a 4 (jump-within n d jump) (lit≤ tt) jump-answer
+  jump-held = answer-held t (from_jump n d jump) a jump-answer
 
   pub jump_goes : (cs all : Cells) → all ≡ pushed_all cs (take a.cells.count a.cells.at) → record { number = a.number; word = a.word; cells = all } ≡ answer_from t cs (from_jump n d jump)
   jump_goes cs all h = part-goes t cs (from_jump n d jump) a all jump-answer h

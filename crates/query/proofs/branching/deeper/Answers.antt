@@ -1,18 +1,16 @@
 -- `branching::deeper` meets its contract. Assumes nothing.
 use Rattle.answers.specs.Steps.{level, inside, deeper}
-use Rattle.answers.proofs.Bounds.{level-within}
 use Rattle.query.proofs.joining.Joins.{answer-held}
 use Rattle.query.proofs.relate.Relations.{inner-goes}
 use Rattle.query.proofs.Programs.{steps, le-no}
 use Rattle.query.proofs.branching.deeper.Goals as goal
-use Rattle.std.proofs.Common.{lit≤}
 
 pub returns-then-table-depth : goal.returns-then-table-depth
 unfolding deeper
 returns-then-table-depth c = search steps
 
 pub with_ten-all-requires : goal.with_ten-all-requires
-with_ten-all-requires c = let inner = c.level-inner.ensures in (answer-held _ _ _ 10 (level-within _ _ _) (lit≤ tt) inner.answer, inner.few)
+with_ten-all-requires c = let inner = c.level-inner.ensures in (answer-held _ _ _ inner.answer, inner.few)
 
 pub returns-then-inner-eq-TOO_DEEP : goal.returns-then-inner-eq-TOO_DEEP
 unfolding deeper inside
