@@ -80,8 +80,8 @@ fn named(names: &[u32], p: usize) -> usize {
 
 // A list with each entry i called names[i].
 fn rename(parents: &[u32], names: &[u32], renamed: &mut [u32]) {
-    for (name, parent) in names.iter().zip(parents) {
-        put(renamed, *name as usize, named(names, *parent as usize));
+    for (i, name) in names.iter().enumerate() {
+        put(renamed, *name as usize, named(names, get(parents, i)));
     }
 }
 

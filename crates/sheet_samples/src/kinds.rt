@@ -40,10 +40,11 @@ pub enum Kind {
     Overfull,
     OverfullCut,
     FullByte,
+    Further,
 }
 
 impl Kind {
-    // The kind of a line; any line behind them is of the last.
+    // The kind of a line. A line behind them has good sheets, on trees as those of the most lines.
     pub fn at(line: usize) -> Kind
         ensures empty { (result ≡ Empty) ↔ (line ≡ 25) }
         ensures empty_below { (result ≡ EmptyBelow) ↔ (line ≡ 26) }
@@ -102,16 +103,17 @@ impl Kind {
             30 => Kind::FullFault,
             31 => Kind::Overfull,
             32 => Kind::OverfullCut,
-            _ => Kind::FullByte,
+            33 => Kind::FullByte,
+            _ => Kind::Further,
         }
     }
 
-    // Whether a sheet of the kind has a stated number of lines, which is about the most.
+    // Whether the kind is tried on trees of any size: those about the most lines, and what is behind them.
     pub(crate) fn is_full(self) -> bool {
-        self.total().is_some()
+        self == Kind::Further || self.total().is_some()
     }
 
-    // That number.
+    // The number of lines that a sheet of the kind has, where it is stated: about the most.
     pub(crate) fn total(self) -> Option<usize> {
         match self {
             Kind::Full | Kind::FullByte => Some(4096),
