@@ -48,8 +48,8 @@ pub fn look(sound: bool, classes: Classes, v: usize) -> Result<usize, Refusal>
     Ok(above(classes.parents, v, depth.saturating_sub(classes.level)))
 }
 
-// What a question is to answer behind a lookup: the lookup's refusals, the sheet's, and then the sum's. The first two are handed on as they are, so they may be of any type that
-// has the third.
+// What a question is to answer behind a lookup: the lookup's refusals, the sheet's, and then the sum's. The first two are handed on as they are, so they may be of any `Copy`
+// type that has the third.
 pub fn price<R: Copy + From<Refusal>>(
     looked: Result<usize, R>,
     checked: Result<usize, R>,

@@ -54,7 +54,7 @@ fn space_differences(n: usize, answer: Result<usize, Refusal>, space: &[u32]) ->
     differences(space, want)
 }
 
-// What preparing is lent, with 16 words beyond the longest table and space: one for all trials, since to make it anew for each takes half as long as these.
+// What preparing is lent, with 16 words beyond the longest table and space: one for all trials: to zero it for each would write 0.7 GB.
 #[derive(Drop)]
 pub(crate) struct Loan {
     parents: [u32; 512],

@@ -44,7 +44,7 @@ pub enum Kind {
 }
 
 impl Kind {
-    // The kind of a line. A line behind them has good sheets, on trees as those of the most lines.
+    // The kind of a line. A line behind them has good sheets, on trees of the sizes of the fullest kinds.
     pub fn at(line: usize) -> Kind
         ensures empty { (result ≡ Empty) ↔ (line ≡ 25) }
         ensures empty_below { (result ≡ EmptyBelow) ↔ (line ≡ 26) }
@@ -108,7 +108,7 @@ impl Kind {
         }
     }
 
-    // Whether the kind is tried on trees of any size: those about the most lines, and what is behind them.
+    // Whether the kind is tried on trees of up to 512 entries: those about the most lines, and what is behind them.
     pub(crate) fn is_full(self) -> bool {
         self == Kind::Further || self.total().is_some()
     }

@@ -16,7 +16,8 @@ pub(crate) fn number_of(kind: Kind) -> Option<usize> {
 // How many sheets of a kind are tried: few of those about the most lines.
 pub(crate) fn count_of(kind: Kind) -> usize {
     match kind {
-        Kind::Full | Kind::FullFault | Kind::Overfull | Kind::OverfullCut | Kind::FullByte => 4,
+        Kind::Full | Kind::FullFault | Kind::Overfull | Kind::OverfullCut => 4,
+        Kind::FullByte | Kind::Further => 4,
         _ => 80,
     }
 }
